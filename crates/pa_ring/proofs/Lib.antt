@@ -1,0 +1,12 @@
+pub mod Integers
+pub mod Polynomials
+pub mod RingTactics
+pub mod OrderTactics
+pub mod OrderLaws
+pub mod IntegerTactics
+pub mod Examples
+pub mod RingSums
+pub mod OrderSums
+pub mod Sums
+pub mod Choices
+pub mod Lists

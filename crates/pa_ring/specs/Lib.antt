@@ -1,0 +1,5 @@
+pub mod CommutativeRing
+pub mod OrderedRing
+pub mod Sums
+pub mod RingSums
+pub mod Choices
