@@ -1,0 +1,13 @@
+pub mod Divisors
+pub mod Coprime
+pub mod CommonMultiples
+pub mod BinaryGcd
+pub mod ListDivisors
+pub mod ReducedForms
+pub mod Rationals
+pub mod RationalOrders
+pub mod RationalTactics
+pub mod Reciprocals
+pub mod Floors
+pub mod ReducedOperations
+pub mod RationalExamples
