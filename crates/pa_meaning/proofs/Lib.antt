@@ -1,0 +1,5 @@
+pub mod Farkas
+pub mod PrimitiveRows
+pub mod Columns
+pub mod Elimination
+pub mod Examples
