@@ -1,0 +1,12 @@
+pub mod Dots
+pub mod Quotients
+pub mod Examples
+pub mod CommonDenominators
+pub mod CommonDivisors
+pub mod CommonWeights
+pub mod Turns
+pub mod WeightedSums
+pub mod Listed
+pub mod Shifts
+pub mod Pairs
+pub mod ShiftedPoints
