@@ -1,0 +1,10 @@
+pub mod Places
+pub mod Columns
+pub mod Repeats
+pub mod MergedPorts
+pub mod Meets
+pub mod Results
+pub mod Merged
+pub mod Steps
+pub mod Fitting
+pub mod Made
