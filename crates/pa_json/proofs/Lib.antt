@@ -1,0 +1,6 @@
+mod Trees
+pub mod Steps
+mod Repeats
+mod Kept
+pub mod RowTexts
+mod Contracts
