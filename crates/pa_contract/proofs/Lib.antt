@@ -1,6 +1,5 @@
 pub mod Places
 pub mod Columns
-pub mod Repeats
 pub mod MergedPorts
 pub mod Meets
 pub mod Results

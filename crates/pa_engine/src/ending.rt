@@ -6,10 +6,10 @@ ghost use Rattle.pa_engine.specs.Ending.{IsEnding, IsBytesEnding, IsScriptEnding
 
 use crate::answer::{Answered, answer_line};
 use crate::report::report_of;
-use crate::script::read_script;
+use crate::script::{MOST_SCRIPT, read_script};
 use crate::{InputFault, Which};
 use pa_desk::{FetchFault, Shelf};
-use pa_json::{Diagram, DiagramFault, read_diagram};
+use pa_json::{Diagram, DiagramFault, MOST_BYTES, read_diagram};
 use std::alloc::{AllocError, Global};
 use std::marker::Model;
 
@@ -34,11 +34,6 @@ pub enum Ending {
     Input(InputFault),
     ReadFault(Which),
 }
-
-/// How many bytes of a diagram and of a script are read.
-const MOST_DIAGRAM: u64 = 1_048_576;
-
-const MOST_SCRIPT: u64 = 262_144;
 
 // The script line with its answer over the contracts, if the bytes have both.
 fn answered(alloc: Global, diagram: &Diagram, bytes: &[u8]) -> Result<Option<Answered>, AllocError>
@@ -112,7 +107,7 @@ pub(crate) fn ending_of<H: Shelf>(
         (Rose (H.faults shelf.old) (H.faults shelf.new))) }
     ensures same { H.holds shelf.new ≡ H.holds shelf.old }
 {
-    match shelf.fetch(alloc, diagram, MOST_DIAGRAM) {
+    match shelf.fetch(alloc, diagram, MOST_BYTES) {
         Ok(bytes) => with_bytes(alloc, &bytes, script, shelf),
         Err(FetchFault::Failed) => Ok(Ending::ReadFault(Which::Diagram)),
         Err(FetchFault::Memory) => Err(AllocError),

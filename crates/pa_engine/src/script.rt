@@ -5,6 +5,9 @@ ghost use Rattle.pa_engine.specs.Script as spec;
 use pa_names::{Name, NameFault};
 use std::alloc::{AllocError, Global};
 
+/// How many bytes a script has at most.
+pub(crate) const MOST_SCRIPT: u64 = 262_144;
+
 /// What a script line asks for.
 #[derive(Drop)]
 pub enum Op {
@@ -97,7 +100,7 @@ fn line_of_words(alloc: Global, words: &[&[u8]]) -> Result<Option<ScriptLine>, A
 pub(crate) fn read_script(alloc: Global, bytes: &[u8]) -> Result<Option<ScriptLine>, AllocError>
     ensures { IfOk result (λ line. line ≡ spec.script_of bytes.now) }
 {
-    if bytes.len() > 262_144 {
+    if bytes.len() as u64 > MOST_SCRIPT {
         return Ok(None);
     }
     let words = words_of(alloc, without_line_feed(bytes))?;

@@ -11,8 +11,8 @@ use serde_json::Value;
 use std::alloc::Global;
 use std::marker::Model;
 
-// How many bytes a diagram has at most.
-const MOST_BYTES: usize = 1_048_576;
+/// How many bytes a diagram has at most.
+pub const MOST_BYTES: u64 = 1_048_576;
 
 // How many contracts a diagram has at most.
 const MOST_CONTRACTS: usize = 200;
@@ -104,7 +104,7 @@ fn read_tree(alloc: Global, tree: &Value) -> Result<Diagram, DiagramFault>
 pub fn read_diagram(alloc: Global, bytes: &Vec<u8>) -> Result<Diagram, DiagramFault>
     ensures { IsAnswer DiagramFault.Memory (spec.diagram_of bytes.now.items) result }
 {
-    if bytes.len() > MOST_BYTES {
+    if bytes.len() as u64 > MOST_BYTES {
         return Err(DiagramFault::TooLong);
     }
     match Value::from_slice(alloc, bytes) {

@@ -10,4 +10,6 @@ pub mod RationalTactics
 pub mod Reciprocals
 pub mod Floors
 pub mod ReducedOperations
+pub mod Repeats
+pub mod Unions
 pub mod RationalExamples

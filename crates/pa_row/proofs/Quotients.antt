@@ -8,8 +8,9 @@ use lib.IntN.{ℤ, pos, negsuc}
 use lib.Signed.{◌<ℤ◌}
 use Rattle.pa_ring.proofs.Integers.{abs-neg_ℤ}
 use Rattle.pa_math.specs.Divisors.{gcd_of, gcd_ℤ, gcd_all, quotients}
-use Rattle.pa_math.proofs.Divisors.{gcd_of_at_most, gcd_of_zero, gcd_ℤ_left, gcd_ℤ_right, gcd_ℤ_greatest, gcd_ℤ_unique, Divides_one, Divides_trans, quotient_by_one}
+use Rattle.pa_math.proofs.Divisors.{gcd_of_at_most, gcd_of_comm, gcd_of_zero, gcd_ℤ_left, gcd_ℤ_right, gcd_ℤ_greatest, gcd_ℤ_unique, Divides_one, Divides_trans, quotient_by_one}
 use Rattle.pa_math.proofs.ListDivisors.{gcd_all_zero}
+use Rattle.pa_frac.proofs.Lowest.{shared_at_most}
 use Rattle.pa_meaning.proofs.PrimitiveRows.{zero_quotient}
 use Rattle.pa_meaning.specs.Rows.{Row}
 use Rattle.pa_meaning.specs.Elimination.{primitive}
@@ -20,6 +21,10 @@ use Rattle.pa_row.specs.Width.{Fits, IsNarrow}
 pub gcd_of_fits : (a b : ℕ) → a < 2 ^ 126 → b < 2 ^ 126 → gcd_of a b < 2 ^ 126
 gcd_of_fits a zero h k = rw (gcd_of_zero a) h
 gcd_of_fits a (suc b) h k = omega (arith, gcd_of_at_most a (suc b) (omega arith))
+
+-- a positive number bounds its divisors
+pub divisor_at_most : (a b : ℤ) → pos 0 <ℤ a → gcd_of (unsigned_abs a) (unsigned_abs b) ≤ unsigned_abs a
+divisor_at_most a b h = rw (gcd_of_comm (unsigned_abs a) (unsigned_abs b)) (shared_at_most b a h)
 
 -- it is the same in whichever order the numbers are taken
 gcd_ℤ_assoc : (a b c : ℤ) → gcd_ℤ (gcd_ℤ a b) c ≡ gcd_ℤ a (gcd_ℤ b c)
@@ -85,7 +90,8 @@ quotients_by_one (x ∷ xs) = ap₂ ◌∷◌ (quotient_by_one x) (quotients_by_
 zero_divided : (d x : ℤ) → x ≡ pos 0 → x ≡ int_div x d
 zero_divided d x e = e ∙ sym (zero_quotient d) ∙ ap (λ t. int_div t d) (sym e)
 
-zeros_divided : (d : ℤ) (xs : List ℤ) → All (λ x. x ≡ pos 0) xs → xs ≡ quotients d xs
+-- a list of zeros, divided
+pub zeros_divided : (d : ℤ) (xs : List ℤ) → All (λ x. x ≡ pos 0) xs → xs ≡ quotients d xs
 zeros_divided d [] h = refl
 zeros_divided d (x ∷ xs) h = ap₂ ◌∷◌ (zero_divided d x (All-head (λ x. x ≡ pos 0) x xs h)) (zeros_divided d xs (All-tail (λ x. x ≡ pos 0) x xs h))
 

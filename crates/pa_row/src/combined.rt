@@ -12,7 +12,7 @@ ghost use Rattle.pa_row.specs.Answers.{IsRowAnswer, seen_as};
 ghost use Rattle.pa_row.specs.Sums.{bounds_at, columns_in, columns_shifted, combined_in, dot_in, in_column, numerators, pair_row_in, pair_sum_in, pair_sums_in, cancelled_in, scaled_less_in, shifted_in};
 
 use crate::cover::{bound_sum, column_sum};
-use crate::divisor::{divided, with_number};
+use crate::divisor::{common_divisor, divided};
 use crate::sums::scaled_less;
 use crate::{Row, RowFault, Weights};
 use pa_frac::{Wide, add_whole, mul_whole};
@@ -152,15 +152,6 @@ fn pair_sums(
     Ok(sums)
 }
 
-// The greatest common divisor of two numbers.
-fn pair_divisor(a: i128, b: i128) -> i128
-    requires first { Fits a }
-    requires second { Fits b }
-    ensures { result ≡ gcd_ℤ a b }
-{
-    with_number(a.unsigned_abs(), b) as i128
-}
-
 // The factors with which a positive and a negative number cancel: each is the other's absolute
 // value over the greatest common divisor of the two.
 fn cancelling_factors(above: i128, below: i128) -> (i128, i128)
@@ -171,7 +162,7 @@ fn cancelling_factors(above: i128, below: i128) -> (i128, i128)
     ensures first { result.0 ≡ int_div (neg_ℤ below) (gcd_ℤ above below) }
     ensures second { result.1 ≡ int_div above (gcd_ℤ above below) }
 {
-    let divisor = pair_divisor(above, below);
+    let divisor = common_divisor(above, below);
     (divided(-below, divisor), divided(above, divisor))
 }
 

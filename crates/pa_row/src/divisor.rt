@@ -1,4 +1,4 @@
-// The common divisor of the numbers of a row, and division by it.
+// Common divisors of numbers, and division by them.
 ghost use Rattle.std.specs.Int.RustNames.{int_div};
 ghost use Rattle.std.specs.Prelude.{◌≡◌, ◌<◌, ◌<ℤ◌, ◌∷◌, ◌^◌, All, pos};
 ghost use Rattle.pa_math.specs.Divisors.{gcd_ℤ, gcd_all, quotients};
@@ -6,9 +6,18 @@ ghost use Rattle.pa_row.specs.Width.{Fits};
 
 use pa_frac::gcd;
 
+// The greatest common divisor of a positive number and another one.
+#[tactic(auto, using(crate::proofs::Quotients::divisor_at_most))]
+pub(crate) fn common_divisor(a: i128, b: i128) -> i128
+    requires { pos 0 <ℤ a }
+    ensures { result ≡ gcd_ℤ a b }
+{
+    gcd(a.unsigned_abs(), b.unsigned_abs()) as i128
+}
+
 // The divisor so far and of one more number.
 #[tactic(auto, using(crate::proofs::Quotients::gcd_of_fits))]
-pub(crate) fn with_number(divisor: u128, number: i128) -> u128
+fn with_number(divisor: u128, number: i128) -> u128
     requires divisor { divisor < 2 ^ 126 }
     requires number { Fits number }
     ensures value { pos result ≡ gcd_ℤ (pos divisor) number }
@@ -20,7 +29,7 @@ pub(crate) fn with_number(divisor: u128, number: i128) -> u128
 // The greatest common divisor of a first number and of all others, which is 0 where all are. Behind a
 // divisor of 1 no number is looked at.
 #[tactic(auto, using(crate::proofs::Quotients::gcd_all_one))]
-fn common_divisor_of_all(first: i128, others: &[i128]) -> u128
+fn unsigned_divisor_of_all(first: i128, others: &[i128]) -> u128
     requires first { Fits first }
     requires others { All Fits others.now }
     ensures value { pos result ≡ gcd_all (first ∷ others.now) }
@@ -36,13 +45,13 @@ fn common_divisor_of_all(first: i128, others: &[i128]) -> u128
     divisor
 }
 
-// The greatest common divisor of a first number and of all others, which is 0 where all are.
-pub(crate) fn common_divisor(first: i128, others: &[i128]) -> i128
+// The same with a sign, which numbers of 126 bits leave room for.
+pub(crate) fn divisor_of_all(first: i128, others: &[i128]) -> i128
     requires first { Fits first }
     requires others { All Fits others.now }
     ensures { result ≡ gcd_all (first ∷ others.now) }
 {
-    common_divisor_of_all(first, others) as i128
+    unsigned_divisor_of_all(first, others) as i128
 }
 
 // The quotient, rounded toward 0.

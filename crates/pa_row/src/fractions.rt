@@ -3,22 +3,13 @@ ghost use Rattle.std.specs.Prelude.{◌≡◌, ℤ, pos, ◌<ℤ◌, ◌*ℤ◌,
 ghost use Rattle.pa_math.specs.Divisors.{gcd_ℤ, gcd_all, lcm_ℤ, quotients};
 ghost use Rattle.pa_frac.specs.Width.{Fits, within};
 ghost use Rattle.pa_row.specs.Answers.{IsRowAnswer, seen_as};
-ghost use Rattle.pa_row.specs.Fractions.{IsFraction, AreWeights, HasFractions, IsPrimitive, common_from, over_common, point_in, direction_in, fraction_of, weights_in, point_of_weights};
+ghost use Rattle.pa_row.specs.Fractions.{IsFraction, AreWeights, HasFractions, IsDirection, IsPrimitive, common_from, over_common, point_in, direction_in, fraction_of, weights_in, point_of_weights};
 ghost use Rattle.pa_row.specs.Fractions as spec;
 
-use crate::divisor::{divide_all, divided};
+use crate::divisor::{common_divisor, divide_all, divided, divisor_of_all};
 use crate::{Point, RowFault, Weights};
-use pa_frac::{Wide, gcd, mul_whole};
+use pa_frac::{Wide, mul_whole};
 use std::alloc::{AllocError, Global};
-
-// The greatest common divisor of a number and a positive one.
-#[tactic(auto, using(pa_frac::proofs::Lowest::shared_at_most))]
-fn common_divisor(a: i128, b: i128) -> i128
-    requires { pos 0 <ℤ b }
-    ensures { result ≡ gcd_ℤ a b }
-{
-    gcd(a.unsigned_abs(), b.unsigned_abs()) as i128
-}
 
 // The least common multiple of two positive numbers.
 #[tactic(auto, using(pa_frac::proofs::Lowest::shared_positive))]
@@ -85,34 +76,13 @@ pub fn point_of(alloc: Global, parts: &[(i128, i128)]) -> Result<Point, RowFault
     Ok(Point { p, q })
 }
 
-// The greatest common divisor of all numbers, which is 0 where all of them are.
-#[tactic(auto, using(crate::proofs::CommonDivisors::all_turn, crate::proofs::CommonDivisors::all_done, pa_math::proofs::Divisors::gcd_of_zero, pa_math::proofs::Divisors::gcd_of_comm))]
-fn unsigned_divisor_of_all(numbers: &[i128]) -> u128
-    ensures { result ≡ unsigned_abs (gcd_all numbers.now) }
-{
-    let mut shared: u128 = 0;
-    for n in numbers {
-        shared = gcd(shared, n.unsigned_abs());
-    }
-    shared
-}
-
-// The same with a sign, which numbers of 126 bits leave room for.
-#[tactic(auto, using(crate::proofs::CommonDivisors::gcd_all_fits, crate::proofs::CommonDivisors::gcd_all_abs))]
-fn divisor_of_all(numbers: &[i128]) -> i128
-    requires { All (Fits 126) numbers.now }
-    ensures { result ≡ gcd_all numbers.now }
-{
-    unsigned_divisor_of_all(numbers) as i128
-}
-
 // The numbers without their greatest common divisor. Numbers that are all 0 stay.
-#[tactic(auto, using(crate::proofs::CommonDivisors::nothing_shared))]
+#[tactic(auto, using(crate::proofs::Directions::nothing_shared))]
 fn without_common(mut numbers: Vec<i128>) -> Vec<i128>
     requires { All (Fits 126) numbers.items }
     ensures { result.items ≡ spec.without_common numbers.items }
 {
-    let shared = divisor_of_all(&numbers);
+    let shared = divisor_of_all(0, &numbers);
     if shared > 1 {
         divide_all(&mut numbers, shared);
     }
@@ -129,6 +99,7 @@ fn without_common(mut numbers: Vec<i128>) -> Vec<i128>
 pub fn direction_of(alloc: Global, parts: &[(i128, i128)]) -> Result<Vec<i128>, RowFault>
     requires { All IsFraction parts.now }
     ensures exact { IsRowAnswer (direction_in parts.now) (seen_as (λ v. v.items) result) }
+    ensures meaning { IfOk result (λ v. IsDirection parts.now v.items) }
     ensures primitive { IfOk result (λ v. IsPrimitive v.items) }
 {
     let point = point_of(alloc, parts)?;

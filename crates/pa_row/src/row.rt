@@ -5,7 +5,7 @@ ghost use Rattle.pa_meaning.specs.Elimination.{primitive};
 ghost use Rattle.pa_meaning.specs.Rows.{Meets, Point as PointValue};
 ghost use Rattle.pa_row.specs.Sums.{meets_in};
 
-use crate::divisor::{common_divisor, divide_all, divided};
+use crate::divisor::{divide_all, divided, divisor_of_all};
 use crate::sums::dot;
 use crate::{Point, RowFault};
 use pa_frac::{Wide, mul_whole};
@@ -102,7 +102,7 @@ impl Row {
         ensures value { self.new ≡ primitive self.old }
         ensures points { (x : PointValue) → Meets self.new x ↔ Meets self.old x }
     {
-        let divisor = common_divisor(self.b, &self.c);
+        let divisor = divisor_of_all(self.b, &self.c);
         if divisor > 1 {
             divide_all(&mut self.c, divisor);
             self.b = divided(self.b, divisor);

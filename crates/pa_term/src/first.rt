@@ -13,6 +13,12 @@ use pa_row::Row;
 use std::alloc::{AllocError, Global};
 use thiserror::Error;
 
+// How many bytes a term's text has at most.
+const MOST_TEXT: usize = 4096;
+
+// How many digits a number has at most, from its first one that is not 0.
+const MOST_DIGITS: usize = 18;
+
 /// Why a text is not read as a first term.
 #[derive(Clone, Copy, Debug, PartialEq, Eq, Error)]
 pub enum FirstFault {
@@ -95,7 +101,7 @@ fn split_digits(bytes: &[u8]) -> (&[u8], &[u8])
 #[tactic(auto, using(crate::proofs::Numbers::one_digit_more))]
 fn value_of(digits: &[u8]) -> u64
     requires each { AllPass is_ascii_digit digits.now }
-    requires few { length digits.now ≤ 18 }
+    requires few { length digits.now ≤ spec.most_digits }
     ensures { result ≡ digits_value 10 digits.now }
 {
     let mut value = 0;
@@ -112,7 +118,7 @@ fn bound_of(digits: &[u8]) -> Option<u64>
     ensures { result ≡ spec.bound_of digits.now }
 {
     let counted = skip_zeros(digits);
-    if digits.is_empty() || counted.len() > 18 {
+    if digits.is_empty() || counted.len() > MOST_DIGITS {
         return None;
     }
     Some(value_of(counted))
@@ -158,7 +164,7 @@ fn row_of(alloc: Global, text: &[u8], names: &Names) -> Result<Row, FirstFault>
     ensures distinct { IsDistinct bytes_eq names.now }
 {
     let columns = names.len();
-    if text.len() > 4096 {
+    if text.len() > MOST_TEXT {
         return Err(FirstFault::Early);
     }
     let (word, rest) = split_word(skip_blanks(text));
