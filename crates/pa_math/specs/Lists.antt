@@ -1,5 +1,5 @@
 -- Lists without repetition.
-use Rattle.std.specs.Prelude.{Bool, List, [], ◌∷◌, ◌++◌, fold, filter, not, if◌then◌else◌}
+use Rattle.std.specs.Prelude.{Bool, List, [], ◌∷◌, ◌++◌, fold, if◌then◌else◌}
 use Rattle.std.specs.List.{list_any}
 
 -- the list with one more at its end, where it is not there yet
