@@ -143,10 +143,7 @@ pub(crate) fn with_contracts(alloc: Global, items: &[Value]) -> Result<Earlier, 
 {
     let mut contracts = Earlier::new(alloc);
     for tree in items {
-        match with_contract(alloc, contracts, tree) {
-            Ok(more) => contracts = more,
-            Err(fault) => return Err(fault),
-        }
+        contracts = with_contract(alloc, contracts, tree)?;
     }
     Ok(contracts)
 }

@@ -123,10 +123,7 @@ fn rows_in(
     let mut rows = Kept::new(alloc);
     for (item, found) in items.iter().enumerate() {
         let text = found.as_str().unwrap();
-        match with_row(alloc, rows, text, contract, key, item, ports) {
-            Ok(more) => rows = more,
-            Err(fault) => return Err(fault),
-        }
+        rows = with_row(alloc, rows, text, contract, key, item, ports)?;
     }
     Ok(rows)
 }

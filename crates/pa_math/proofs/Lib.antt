@@ -1,3 +1,4 @@
+pub mod Answers
 pub mod Divisors
 pub mod Coprime
 pub mod CommonMultiples

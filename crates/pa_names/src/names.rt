@@ -48,7 +48,7 @@ impl Names {
     fn is_full(&self) -> bool
         ensures { result ≡ nat_le spec.most_names (length self.now) }
     {
-        self.names.len() >= 4096
+        self.names.len() >= Names::MOST as usize
     }
 
     /// Adds a name at the end, and gives its place. `Taken` exactly where the name is there, and
@@ -77,7 +77,7 @@ impl Names {
         ensures ok { OnOk result (self.new ≡ with_new bytes_eq self.old name.now) }
         ensures err { OnErr result (self.new ≡ self.old) }
         ensures limit { IfErr result (λ fault. (fault ≡ NameFault.Memory)
-            ⊎ ((fault ≡ NameFault.Limit) × (4096 < length (with_new bytes_eq self.old name.now)))) }
+            ⊎ ((fault ≡ NameFault.Limit) × (spec.most_names < length (with_new bytes_eq self.old name.now)))) }
     {
         if self.names.contains(name) {
             return Ok(());
@@ -98,10 +98,7 @@ impl Names {
         ensures { IsAnswer NameFault.Memory (spec.union_of self other.now) result }
     {
         for place in 0..other.len() {
-            match self.add_new(other.at(place)) {
-                Ok(()) => {}
-                Err(fault) => return Err(fault),
-            }
+            self.add_new(other.at(place))?;
         }
         prove!(self.len() <= Names::MOST);
         Ok(self)
@@ -134,7 +131,7 @@ impl Names {
         ensures ok { OnOk result (self.new ≡ (if list_any (bytes_eq name.now) other.now
             then self.old else with_new bytes_eq self.old name.now)) }
         ensures limit { IfErr result (λ fault. (fault ≡ NameFault.Memory)
-            ⊎ ((fault ≡ NameFault.Limit) × (4096 < length (if list_any (bytes_eq name.now) other.now
+            ⊎ ((fault ≡ NameFault.Limit) × (spec.most_names < length (if list_any (bytes_eq name.now) other.now
             then self.old else with_new bytes_eq self.old name.now)))) }
     {
         if other.names.contains(name) {
@@ -149,10 +146,7 @@ impl Names {
         ensures { IsAnswer NameFault.Memory (spec.union_of self (spec.names_without names.now other.now)) result }
     {
         for place in 0..names.len() {
-            match self.add_unless(other, names.at(place)) {
-                Ok(()) => {}
-                Err(fault) => return Err(fault),
-            }
+            self.add_unless(other, names.at(place))?;
         }
         prove!(self.len() <= Names::MOST);
         Ok(self)
@@ -175,16 +169,14 @@ impl Names {
 
     // Adds a copy of a name at the end.
     fn add_copy(&mut self, name: &Name) -> Result<(), NameFault>
-        requires { length self.old < 4096 }
+        requires { length self.old < spec.most_names }
         ensures ok { OnOk result (self.new ≡ self.old ++ name.now ∷ []) }
         ensures err { IfErr result (λ fault. (fault ≡ NameFault.Memory)
             ⊎ ((fault ≡ NameFault.Taken) × (list_any (bytes_eq name.now) self.old ≡ true))) }
     {
         let copy = name.copy(self.alloc)?;
-        match self.add(copy) {
-            Ok(_) => Ok(()),
-            Err(fault) => Err(fault),
-        }
+        self.add(copy)?;
+        Ok(())
     }
 
     // The names of another list in order, each renamed, behind an empty one.
@@ -201,10 +193,7 @@ impl Names {
             ⊎ ((fault ≡ NameFault.Taken) × (¬ IsDistinct bytes_eq (spec.all_renamed pairs.now names.now)))) }
     {
         for place in 0..names.len() {
-            match self.add_copy(new_name(old_names, pairs, names.at(place))) {
-                Ok(()) => {}
-                Err(fault) => return Err(fault),
-            }
+            self.add_copy(new_name(old_names, pairs, names.at(place)))?;
         }
         Ok(self)
     }
@@ -226,16 +215,13 @@ impl Names {
     pub fn place(&self, name: &Name) -> Option<u32>
         ensures { result ≡ position (bytes_eq name.now) self.now }
     {
-        match self.names.get_index_of(name) {
-            Some(place) => Some(place as u32),
-            None => None,
-        }
+        self.names.get_index_of(name).map(|place| place as u32)
     }
 
     /// How many names there are.
     pub fn len(&self) -> u32
         ensures value { result ≡ length self.now }
-        ensures most { result ≤ 4096 }
+        ensures most { result ≤ spec.most_names }
         ensures distinct { IsDistinct bytes_eq self.now }
     {
         self.names.len() as u32

@@ -39,10 +39,7 @@ pub(crate) fn old_names(alloc: Global, pairs: &[(Name, Name)]) -> Result<IndexSe
 {
     let mut names = IndexSet::new(alloc);
     for place in 0..pairs.len() {
-        match with_name(alloc, names, &pairs[place].0) {
-            Ok(more) => names = more,
-            Err(fault) => return Err(fault),
-        }
+        names = with_name(alloc, names, &pairs[place].0)?;
     }
     Ok(names)
 }
