@@ -10,6 +10,7 @@ mod wide126;
 
 pub use divisor::gcd;
 pub use fraction::Fraction;
+pub use shared::{common_divisor, divided};
 pub use whole::{add_whole, mul_whole};
 pub use wide::Wide;
 pub use wide126::Wide126;

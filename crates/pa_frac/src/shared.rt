@@ -13,16 +13,16 @@ pub struct Parts {
     pub right: i128,
 }
 
-// The greatest common divisor of a number and a positive one.
+/// The greatest common divisor of a number and a positive one, as a signed number.
 #[tactic(auto, using(crate::proofs::Lowest::shared_at_most))]
-fn common_divisor(a: i128, b: i128) -> i128
+pub fn common_divisor(a: i128, b: i128) -> i128
     requires { pos 0 <ℤ b }
     ensures { result ≡ gcd_ℤ a b }
 {
     gcd(a.unsigned_abs(), b.unsigned_abs()) as i128
 }
 
-// An exact quotient, with no division by 1.
+/// The quotient by a positive number, rounded toward 0. Where that is 1, nothing is divided.
 #[tactic(auto, using(std::proofs::lemmas::Int::quot_is, std::proofs::lemmas::Int::quot_fits, pa_math::proofs::Divisors::quotient_by_one))]
 pub fn divided(n: i128, by: i128) -> i128
     requires { pos 0 <ℤ by }

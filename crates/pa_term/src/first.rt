@@ -13,8 +13,8 @@ use pa_row::Row;
 use std::alloc::{AllocError, Global};
 use thiserror::Error;
 
-// How many bytes a term's text has at most.
-const MOST_TEXT: usize = 4096;
+/// How many bytes a term's text has at most.
+pub const MOST_TEXT: usize = 4096;
 
 // How many digits a number has at most, from its first one that is not 0.
 const MOST_DIGITS: usize = 18;

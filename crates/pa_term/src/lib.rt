@@ -6,5 +6,5 @@ mod first;
 mod tests;
 mod write;
 
-pub use first::{FirstFault, read_first};
+pub use first::{FirstFault, MOST_TEXT, read_first};
 pub use write::{push_row, write_row};
