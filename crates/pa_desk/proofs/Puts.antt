@@ -1,5 +1,6 @@
 -- What several puts in a row take.
-use Rattle.std.proofs.Common.{length-drop, ◌≡◌, ℕ, ◌+◌, ◌-◌, ◌≤◌, List, [], ◌++◌, take, drop, length, refl, ap, sym, ◌∙◌, append_assoc, arith, Some, None, Option}
+use Rattle.std.proofs.Common.{length-drop, ◌≡◌, ℕ, ◌+◌, ◌-◌, ◌≤◌, List, [], ◌++◌, take, drop, length}
+use Rattle.std.proofs.Common.{refl, ap, sym, ◌∙◌, append_assoc, arith, Some, None, Option}
 use Rattle.std.proofs.Math.Seq.{take-add}
 use Rattle.std.proofs.lemmas.List.{take_rest, append-nil}
 use Rattle.pa_desk.specs.Causes.{Rose}

@@ -1,6 +1,11 @@
 -- What a shelf holds: files by their paths, where it tells them.
 use Rattle.std.specs.Prelude.{◌≡◌, ℕ, ◌+◌, List, take, Option, Some, None, ⊤, option_map, find}
 use Rattle.std.specs.Str.{bytes_eq}
+use Rattle.pa_desk.specs.declared.shelf.TheConstants.{MOST_FETCHED}
+
+-- how many bytes a caller asks for at most
+abbrev pub most_fetched : ℕ
+most_fetched = MOST_FETCHED
 
 -- files in order, each a path and its content
 abbrev pub Files : Type 0

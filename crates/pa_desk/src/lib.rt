@@ -12,7 +12,7 @@ mod sink;
 mod system;
 
 pub use memory::{MemFile, MemShelf, MemSink};
-pub use shelf::{FetchFault, Shelf};
+pub use shelf::{FetchFault, MOST_FETCHED, Shelf};
 pub use sink::{PutFault, Sink, SinkFault, put_all};
 pub use system::{FileShelf, OutSink};
 

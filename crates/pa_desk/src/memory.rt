@@ -2,7 +2,7 @@
 ghost use Rattle.std.specs.Prelude.{◌≡◌, ◌≤◌, ◌+◌, ◌⊎◌, ◌↔◌, min, option_map, [], List, ℕ, Some, IfOk, take, length};
 ghost use Rattle.std.specs.Prelude.{IsErrOf, Contains};
 ghost use Rattle.pa_desk.specs.Causes.{HasCause, next_count};
-ghost use Rattle.pa_desk.specs.Files.{content_at, GivesFront, IsMissing};
+ghost use Rattle.pa_desk.specs.Files.{content_at, GivesFront, IsMissing, most_fetched};
 ghost use Rattle.pa_desk.specs.Taken.{TakesFront};
 ghost use Rattle.pa_desk.specs.Memory.{listed_below, AllBelowEnd, ShelfState, SinkState};
 
@@ -67,7 +67,7 @@ fn content_of<'a>(files: &'a [MemFile], path: &[u8]) -> Option<&'a Vec<u8>>
 
 // The first `most + 1` bytes.
 fn front_of(alloc: Global, bytes: &[u8], most: u64) -> Result<Vec<u8>, AllocError>
-    requires { most ≤ 67108864 }
+    requires { most ≤ most_fetched }
     ensures { IfOk result (λ front. front.items ≡ take (most + 1) bytes.now) }
 {
     let end = bytes.len().min(most as usize + 1);
@@ -82,7 +82,7 @@ impl Shelf for MemShelf {
     /// As [`Shelf::fetch`] says. Fails with [`FetchFault::Failed`] exactly where the number of this
     /// fetch is one of those that fail, or nothing is at the path.
     fn fetch(&mut self, alloc: Global, path: &str, most: u64) -> Result<Vec<u8>, FetchFault>
-        requires { most ≤ 67108864 }
+        requires { most ≤ most_fetched }
         ensures content { IfOk result (λ bytes. GivesFront (Some self.old.files) path.now most bytes.items) }
         ensures same { Some self.new.files ≡ Some self.old.files }
         ensures cause { HasCause FetchFault.Failed (IsMissing (Some self.old.files) path.now)

@@ -1,7 +1,7 @@
 // Where the inputs come from: files by their paths.
 ghost use Rattle.std.specs.Prelude.{◌≡◌, ◌≤◌, ℕ, Option, IfOk};
 ghost use Rattle.pa_desk.specs.Causes.{HasCause};
-ghost use Rattle.pa_desk.specs.Files.{Files, GivesFront, IsMissing};
+ghost use Rattle.pa_desk.specs.Files.{Files, GivesFront, IsMissing, most_fetched};
 
 use std::alloc::Global;
 use thiserror::Error;
@@ -17,6 +17,9 @@ pub enum FetchFault {
     Failed,
 }
 
+/// The greatest `most` that a fetch may be given.
+pub const MOST_FETCHED: u64 = 67_108_864;
+
 /// Files by their paths.
 pub trait Shelf {
     /// The files, where the shelf tells them.
@@ -26,12 +29,13 @@ pub trait Shelf {
     ghost faults: { Self → ℕ };
 
     /// The whole content at `path` where it has at most `most` bytes, and its first `most + 1` bytes
-    /// otherwise, so that a caller sees that it is too long. The shelf holds the same files after it.
+    /// otherwise, so that a caller sees that it is too long. The shelf holds the same files after it. A
+    /// caller asks for at most [`MOST_FETCHED`] bytes.
     ///
     /// Fails with [`FetchFault::Failed`] only where the count of faults rose in this call, or where
     /// the shelf tells its files and none is at the path.
     fn fetch(&mut self, alloc: Global, path: &str, most: u64) -> Result<Vec<u8>, FetchFault>
-        requires { most ≤ 67108864 }
+        requires { most ≤ most_fetched }
         ensures content { IfOk result (λ bytes. GivesFront (holds self.old) path.now most bytes.items) }
         ensures same { holds self.new ≡ holds self.old }
         ensures cause { HasCause FetchFault.Failed (IsMissing (holds self.old) path.now)

@@ -3,7 +3,7 @@ ghost use Rattle.std.specs.Prelude.{◌≡◌, ◌≤◌, ℕ, None, IfOk, IfSom
 ghost use Rattle.std.specs.Io.KnownBytes.{WriteAppends};
 ghost use Rattle.std.specs.Io.{WritesAtMost};
 ghost use Rattle.pa_desk.specs.Causes.{HasCause, CountsEach};
-ghost use Rattle.pa_desk.specs.Files.{GivesFront, IsMissing};
+ghost use Rattle.pa_desk.specs.Files.{GivesFront, IsMissing, most_fetched};
 ghost use Rattle.pa_desk.specs.Taken.{TakesFront};
 ghost use Rattle.pa_desk.specs.System.{WriterState};
 
@@ -56,7 +56,7 @@ impl<R: Files + Drop> Shelf for FileShelf<R> {
     /// Every error of the system but want of memory, a path at which nothing is included, is a
     /// counted fault.
     fn fetch(&mut self, alloc: Global, path: &str, most: u64) -> Result<Vec<u8>, FetchFault>
-        requires { most ≤ 67108864 }
+        requires { most ≤ most_fetched }
         ensures content { IfOk result (λ bytes. GivesFront None path.now most bytes.items) }
         ensures cause { HasCause FetchFault.Failed (IsMissing None path.now) self.old self.new result }
         ensures counted { CountsEach FetchFault.Failed self.old self.new result }

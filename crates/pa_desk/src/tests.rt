@@ -17,7 +17,7 @@ fn a_file_is_read_up_to_one_byte_past_the_limit_and_a_missing_one_is_a_fault(
         (0, b"a".as_slice()),
     ];
     for (most, want) in cases {
-        assert!(rt; most <= 67_108_864);
+        assert!(rt; most <= MOST_FETCHED);
         match shelf.fetch(rt.alloc(), path, most) {
             Ok(bytes) => assert_eq!(rt; bytes.as_slice(), want, "at most {most}"),
             Err(_) => assert!(rt; false, "at most {most}"),
@@ -100,7 +100,7 @@ fn a_shelf_in_memory_fails_at_its_numbers_and_where_nothing_is(
         ("a", 0, Some("a"), "one byte past no byte"),
     ];
     for (path, most, want, name) in cases {
-        assert!(rt; most <= 67_108_864);
+        assert!(rt; most <= MOST_FETCHED);
         match (shelf.fetch(rt.alloc(), path, most), want) {
             (Ok(bytes), Some(text)) => assert_eq!(rt; bytes.as_slice(), text.as_bytes(), "{name}"),
             (Err(FetchFault::Failed), None) => {}

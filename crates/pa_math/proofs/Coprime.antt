@@ -8,7 +8,8 @@ use lib.Signed.{◌≤ℤ◌, ◌<ℤ◌}
 use Rattle.pa_ring.proofs.Integers.{*ℤ_cancel, nonneg-*ℤ, nonneg_pos, null, ◌⋆◌, ◌⊞◌}
 use Rattle.pa_ring.proofs.IntegerTactics.{by_ring, by_equations, reads}
 use Rattle.pa_math.specs.Divisors.{gcd_in, gcd_of, gcd_ℤ, Divides, Coprime}
-use Rattle.pa_math.proofs.Divisors.{Divides_from_multiple, Divides_both, quotient_exact, Divides_multiple, Divides_one, gcd_ℤ_left, gcd_ℤ_right, gcd_ℤ_greatest, gcd_ℤ_unique, gcd_ℤ_comm, gcd_ℤ_left_quotient, gcd_ℤ_right_quotient}
+use Rattle.pa_math.proofs.Divisors.{Divides_from_multiple, Divides_both, quotient_exact, Divides_multiple, Divides_one, gcd_ℤ_left}
+use Rattle.pa_math.proofs.Divisors.{gcd_ℤ_right, gcd_ℤ_greatest, gcd_ℤ_unique, gcd_ℤ_comm, gcd_ℤ_left_quotient, gcd_ℤ_right_quotient}
 
 -- g is a sum of multiples of a and b
 pub record SumOfMultiples (a b g : ℤ) : Type 0 where

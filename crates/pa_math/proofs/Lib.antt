@@ -1,4 +1,5 @@
 pub mod Answers
+pub mod Items
 pub mod Divisors
 pub mod Coprime
 pub mod CommonMultiples

@@ -24,7 +24,8 @@ half = same_over (pos 3) (pos 6) (pos 1) (pos 2) (omega (arith, ints)) (omega (a
 over_two : (a b : ℤ) → over a (pos 2) +ℚ over b (pos 2) ≡ over (a +ℤ b) (pos 2)
 over_two a b =
     let two : pos 0 <ℤ pos 2 = omega (arith, ints) in
-    same_from_ratios (ratio_sum (ratio_over a (pos 2) two) (ratio_over b (pos 2) two)) (ratio_over (a +ℤ b) (pos 2) two) (integers.by_ring (a ∷ b ∷ []) (search reads depth 40) tt)
+    same_from_ratios (ratio_sum (ratio_over a (pos 2) two) (ratio_over b (pos 2) two)) (ratio_over (a +ℤ b) (pos 2) two)
+    (integers.by_ring (a ∷ b ∷ []) (search reads depth 40) tt)
 
 -- a third is less than a half
 third_and_half : over (pos 1) (pos 3) <ℚ over (pos 1) (pos 2)
@@ -69,7 +70,9 @@ value_of_floor = refl
 
 -- 1 / 6 + 1 / 10 is 4 / 15
 value_of_sum : over (pos 1) (pos 6) +ℚ over (pos 1) (pos 10) ≡ over (pos 4) (pos 15)
-value_of_sum = over_sum (pos 1) (pos 6) (pos 1) (pos 10) (omega (arith, ints)) (omega (arith, ints)) ∙ same_over (pos 16) (pos 60) (pos 4) (pos 15) (omega (arith, ints)) (omega (arith, ints)) refl
+value_of_sum =
+    over_sum (pos 1) (pos 6) (pos 1) (pos 10) (omega (arith, ints)) (omega (arith, ints))
+    ∙ same_over (pos 16) (pos 60) (pos 4) (pos 15) (omega (arith, ints)) (omega (arith, ints)) refl
 
 -- the common divisors of -12 and 18 divide 6, and their common multiples are those of 36
 value_of_divisors : (gcd_ℤ (negsuc 11) (pos 18) ≡ pos 6) × (lcm_ℤ (negsuc 11) (pos 18) ≡ pos 36) × (gcd_ℤ (pos 0) (pos 0) ≡ pos 0)

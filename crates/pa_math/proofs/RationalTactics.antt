@@ -21,15 +21,18 @@ pub by_ring : (ρ : List ℚ) {q r : ℚ} (s : Sides ℚ_ring ρ q r) → AllZer
 by_ring ρ s h = rings.by_ring ℚ_ring ρ s h
 
 -- an equation from others: `w`, which is 0, is the difference of its sides
-pub by_equations : (ρ : List ℚ) {q r w : ℚ} → w ≡ whole (pos 0) → (s : Differ ℚ_ring ρ q r w) → AllZero (normal (minus s.left.term (plus s.right.term s.difference.term))) → q ≡ r
+pub by_equations : (ρ : List ℚ) {q r w : ℚ} → w ≡ whole (pos 0) → (s : Differ ℚ_ring ρ q r w)
+    → AllZero (normal (minus s.left.term (plus s.right.term s.difference.term))) → q ≡ r
 by_equations ρ e s h = rings.by_equations ℚ_ring ρ e s h
 
 -- an inequality: `w`, which is not negative, is the difference of its sides
-pub by_le : (ρ : List ℚ) {q r w : ℚ} → whole (pos 0) ≤ℚ w → (s : Differ ℚ_ring ρ q r w) → AllZero (normal (minus s.right.term (plus s.left.term s.difference.term))) → q ≤ℚ r
+pub by_le : (ρ : List ℚ) {q r w : ℚ} → whole (pos 0) ≤ℚ w → (s : Differ ℚ_ring ρ q r w)
+    → AllZero (normal (minus s.right.term (plus s.left.term s.difference.term))) → q ≤ℚ r
 by_le ρ h s z = orders.by_le ℚ_order ρ h s z
 
 -- a strict inequality: `w`, which is positive, is the difference of its sides
-pub by_lt : (ρ : List ℚ) {q r w : ℚ} → whole (pos 0) <ℚ w → (s : Differ ℚ_ring ρ q r w) → AllZero (normal (minus s.right.term (plus s.left.term s.difference.term))) → q <ℚ r
+pub by_lt : (ρ : List ℚ) {q r w : ℚ} → whole (pos 0) <ℚ w → (s : Differ ℚ_ring ρ q r w)
+    → AllZero (normal (minus s.right.term (plus s.left.term s.difference.term))) → q <ℚ r
 by_lt ρ h s z = orders.by_lt ℚ_order ρ h s z
 
 -- ---- facts `w ≡ 0`, which multiply and add

@@ -243,7 +243,8 @@ pub *ℚ_comm : (q r : ℚ) → q *ℚ r ≡ r *ℚ q
 -- products regroup
 pub *ℚ_assoc : (q r s : ℚ) → q *ℚ r *ℚ s ≡ q *ℚ (r *ℚ s)
 *ℚ_assoc q r s =
-    same_from_ratios (ratio_product (ratio_product (ratio_self q) (ratio_self r)) (ratio_self s)) (ratio_product (ratio_self q) (ratio_product (ratio_self r) (ratio_self s)))
+    same_from_ratios (ratio_product (ratio_product (ratio_self q) (ratio_self r)) (ratio_self s))
+    (ratio_product (ratio_self q) (ratio_product (ratio_self r) (ratio_self s)))
     (by_ring (q.num ∷ den q ∷ r.num ∷ den r ∷ s.num ∷ den s ∷ []) (search reads depth 40) tt)
 
 -- 1 is neutral for products
@@ -255,7 +256,8 @@ one-*ℚ q =
 -- a factor goes over a sum
 pub *ℚ-+ℚ : (q r s : ℚ) → q *ℚ (r +ℚ s) ≡ q *ℚ r +ℚ q *ℚ s
 *ℚ-+ℚ q r s =
-    same_from_ratios (ratio_product (ratio_self q) (ratio_sum (ratio_self r) (ratio_self s))) (ratio_sum (ratio_product (ratio_self q) (ratio_self r)) (ratio_product (ratio_self q) (ratio_self s)))
+    same_from_ratios (ratio_product (ratio_self q) (ratio_sum (ratio_self r) (ratio_self s)))
+    (ratio_sum (ratio_product (ratio_self q) (ratio_self r)) (ratio_product (ratio_self q) (ratio_self s)))
     (by_ring (q.num ∷ den q ∷ r.num ∷ den r ∷ s.num ∷ den s ∷ []) (search reads depth 40) tt)
 
 -- sums of whole numbers are sums of fractions

@@ -9,7 +9,8 @@ use Rattle.pa_ring.proofs.IntegerTactics.{reads}
 use Rattle.pa_ring.proofs.OrderLaws.{lt-le_trans, mul_le, mul_lt, mul_le_cancel, mul_lt_cancel}
 use Rattle.pa_math.specs.Rational.{ℚ, den, over, whole, neg_ℚ, ◌-ℚ◌, ◌*ℚ◌, reciprocal, ◌/ℚ◌}
 use Rattle.pa_math.specs.RationalOrder.{◌≤ℚ◌, ◌<ℚ◌}
-use Rattle.pa_math.proofs.Rationals.{den_positive, *ℚ_comm, over_zero, ratio_over_negative, IsRatio, ratio_self, ratio_over, ratio_whole, ratio_cross, ratio_product, same_from_ratios, whole_numbers, whole_injective}
+use Rattle.pa_math.proofs.Rationals.{den_positive, *ℚ_comm, over_zero, ratio_over_negative, IsRatio, ratio_self, ratio_over}
+use Rattle.pa_math.proofs.Rationals.{ratio_whole, ratio_cross, ratio_product, same_from_ratios, whole_numbers, whole_injective}
 use Rattle.pa_math.proofs.RationalOrders.{ℚ_order, <ℚ_irrefl, <ℚ-≤ℚ, le_from_ratios, lt_from_ratios, positive_num}
 use Rattle.pa_math.proofs.RationalTactics.{by_equations, null, ◌⋆◌, ◌⊞◌}
 
@@ -112,7 +113,8 @@ reciprocal-neg_ℚ q h =
 pub reciprocal-*ℚ : (q r : ℚ) → q ≢ whole (pos 0) → r ≢ whole (pos 0) → reciprocal (q *ℚ r) ≡ reciprocal q *ℚ reciprocal r
 reciprocal-*ℚ q r h k =
     sym (reciprocal_unique (q *ℚ r) (reciprocal q *ℚ reciprocal r)
-    (by_equations (q ∷ r ∷ reciprocal q ∷ reciprocal r ∷ []) ((r *ℚ reciprocal r) ⋆ null (*ℚ-reciprocal q h) ⊞ null (*ℚ-reciprocal r k)) (search reads depth 40) tt))
+    (by_equations (q ∷ r ∷ reciprocal q ∷ reciprocal r ∷ []) ((r *ℚ reciprocal r) ⋆ null (*ℚ-reciprocal q h) ⊞ null (*ℚ-reciprocal r k))
+    (search reads depth 40) tt))
 
 -- `n / d` is the quotient of whole numbers
 pub over_quotient : (n d : ℤ) → d ≢ pos 0 → over n d ≡ whole n /ℚ whole d
@@ -171,4 +173,5 @@ reciprocal-≤ℚ {q} {r} up h =
 
 -- the quotient of written fractions with a positive divisor
 pub over_division : (n d m e : ℤ) → pos 0 <ℤ d → pos 0 <ℤ m → pos 0 <ℤ e → over n d /ℚ over m e ≡ over (n *ℤ e) (d *ℤ m)
-over_division n d m e h k l = same_from_ratios (ratio_product (ratio_over n d h) (ratio_reciprocal (ratio_over m e l) k)) (ratio_over _ _ (positive-*ℤ d m h k)) refl
+over_division n d m e h k l =
+    same_from_ratios (ratio_product (ratio_over n d h) (ratio_reciprocal (ratio_over m e l) k)) (ratio_over _ _ (positive-*ℤ d m h k)) refl

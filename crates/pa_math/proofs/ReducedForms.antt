@@ -7,7 +7,8 @@ use lib.Signed.{◌≤ℤ◌, ◌<ℤ◌}
 use Rattle.pa_ring.proofs.Integers.{*ℤ_cancel, null, ◌⋆◌, ◌⊞◌}
 use Rattle.pa_ring.proofs.IntegerTactics.{by_equations, reads}
 use Rattle.pa_math.specs.Divisors.{gcd_ℤ, Divides, IsReduced}
-use Rattle.pa_math.proofs.Divisors.{Divides_from_multiple, Divides_at_most, gcd_ℤ_right, gcd_ℤ_positive, gcd_ℤ_left_quotient, gcd_ℤ_right_quotient, quotient_positive}
+use Rattle.pa_math.proofs.Divisors.{Divides_from_multiple, Divides_at_most, gcd_ℤ_right, gcd_ℤ_positive}
+use Rattle.pa_math.proofs.Divisors.{gcd_ℤ_left_quotient, gcd_ℤ_right_quotient, quotient_positive}
 use Rattle.pa_math.proofs.Coprime.{Divides_coprime_factor, coprime_swap, coprime_one, coprime_quotients}
 
 -- the denominator of a reduced form divides the denominator of any form of the value

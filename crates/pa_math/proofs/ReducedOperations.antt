@@ -14,8 +14,10 @@ use Rattle.pa_ring.proofs.IntegerTactics.{by_ring, by_equations, reads}
 use Rattle.pa_math.specs.Divisors.{gcd_ℤ, Coprime, IsReduced}
 use Rattle.pa_math.specs.Rational.{ℚ, den, over, whole, ◌+ℚ◌, ◌-ℚ◌, ◌*ℚ◌, reciprocal}
 use Rattle.pa_math.specs.RationalOrder.{compare_ℚ}
-use Rattle.pa_math.proofs.Divisors.{gcd_ℤ_positive, gcd_ℤ_comm, gcd_ℤ_right, gcd_ℤ_left_quotient, gcd_ℤ_right_quotient, quotient_positive, quotient_by_one, Divides_from_factor}
-use Rattle.pa_math.proofs.Coprime.{coprime_one, coprime_swap, coprime_neg, coprime_product, coprime_product_right, coprime_divisor, coprime_divisor_right, coprime_quotients, coprime_shift, gcd_ℤ_coprime_factor}
+use Rattle.pa_math.proofs.Divisors.{gcd_ℤ_positive, gcd_ℤ_comm, gcd_ℤ_right, gcd_ℤ_left_quotient}
+use Rattle.pa_math.proofs.Divisors.{gcd_ℤ_right_quotient, quotient_positive, quotient_by_one, Divides_from_factor}
+use Rattle.pa_math.proofs.Coprime.{coprime_one, coprime_swap, coprime_neg, coprime_product, coprime_product_right, coprime_divisor}
+use Rattle.pa_math.proofs.Coprime.{coprime_divisor_right, coprime_quotients, coprime_shift, gcd_ℤ_coprime_factor}
 use Rattle.pa_math.proofs.ReducedForms.{Reduces, reduces}
 use Rattle.pa_math.proofs.Rationals.{ratio_self, ratio_over, ratio_whole, ratio_sum, ratio_product, same_from_ratios, over_neg, over_numbers, over_reduced}
 use Rattle.pa_math.proofs.RationalOrders.{compare_from_ratios}
@@ -75,9 +77,11 @@ sum_common_divisor a b c d s t =
     let q : ℤ = int_div d g in
     let n : ℤ = a *ℤ q +ℤ c *ℤ p in
     let is = common b d t.positive in
-    let with_p : Coprime n p = coprime_shift c (coprime_product (coprime_divisor_right (Divides_from_factor p g b is.left) s.coprime) (coprime_swap is.coprime)) in
+    let with_p : Coprime n p =
+    coprime_shift c (coprime_product (coprime_divisor_right (Divides_from_factor p g b is.left) s.coprime) (coprime_swap is.coprime)) in
     let with_q : Coprime n q =
-    subst (λ z. Coprime z q) (+ℤ_comm (c *ℤ p) (a *ℤ q)) (coprime_shift a (coprime_product (coprime_divisor_right (Divides_from_factor q g d is.right) t.coprime) is.coprime)) in
+    subst (λ z. Coprime z q) (+ℤ_comm (c *ℤ p) (a *ℤ q))
+    (coprime_shift a (coprime_product (coprime_divisor_right (Divides_from_factor q g d is.right) t.coprime) is.coprime)) in
     let den_is : sum_den b d ≡ g *ℤ (p *ℤ q) = by_equations (b ∷ g ∷ p ∷ q ∷ []) (neg_ℤ q ⋆ null is.left) (search reads depth 40) tt in
     ap (gcd_ℤ n) den_is ∙ gcd_ℤ_comm n (g *ℤ (p *ℤ q))
     ∙ gcd_ℤ_coprime_factor g (coprime_product (coprime_swap with_p) (coprime_swap with_q))

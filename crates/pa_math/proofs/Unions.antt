@@ -95,7 +95,8 @@ module _ {A : Type 0} where
   find-none p [] h = tt
   find-none p (x ∷ xs) h = by (p x) refl h (find-none p xs)
     where
-      by : (b : Bool) → p x ≡ b → cond b (Some x) (find p xs) ≡ None → (find p xs ≡ None → AllByRecursion (λ x. p x ≡ false) xs) → (p x ≡ false) × AllByRecursion (λ x. p x ≡ false) xs
+      by : (b : Bool) → p x ≡ b → cond b (Some x) (find p xs) ≡ None → (find p xs ≡ None → AllByRecursion (λ x. p x ≡ false) xs)
+          → (p x ≡ false) × AllByRecursion (λ x. p x ≡ false) xs
       by true e h rest = absurd (cc)
       by false e h rest = (e, rest h)
 
@@ -111,15 +112,18 @@ module _ {A : Type 0} where
     pub AreApart-flip : IsEquivalence same → (xs ys : List A) → AreApart xs ys → AreApart ys xs
     AreApart-flip laws xs [] h = tt
     AreApart-flip laws xs (y ∷ ys) h = (
-      list_any-none (same y) xs (All-implied (λ x. list_any (same x) (y ∷ ys) ≡ false) (λ x. same y x ≡ false) (λ x k. laws.symm y x ∙ (none-list_any (same x) (y ∷ ys) k).0) xs h),
-      AreApart-flip laws xs ys (All-implied (λ x. list_any (same x) (y ∷ ys) ≡ false) (λ x. list_any (same x) ys ≡ false) (λ x k. list_any-none (same x) ys (none-list_any (same x) (y ∷ ys) k).1) xs h),
+      list_any-none (same y) xs
+          (All-implied (λ x. list_any (same x) (y ∷ ys) ≡ false) (λ x. same y x ≡ false) (λ x k. laws.symm y x ∙ (none-list_any (same x) (y ∷ ys) k).0) xs h),
+      AreApart-flip laws xs ys (All-implied (λ x. list_any (same x) (y ∷ ys) ≡ false) (λ x. list_any (same x) ys ≡ false)
+          (λ x k. list_any-none (same x) ys (none-list_any (same x) (y ∷ ys) k).1) xs h),
     )
 
     -- a list of different elements, from two, and back
     pub IsDistinct-both : (xs ys : List A) → IsDistinct same xs → IsDistinct same ys → AreApart xs ys → IsDistinct same (xs ++ ys)
     IsDistinct-both [] ys d e h = e
     IsDistinct-both (x ∷ xs) ys d e h =
-        IsDistinct-cons same x (xs ++ ys) (All-both _ xs ys (IsDistinct-head same x xs d) (none-list_any (same x) ys h.0)) (IsDistinct-both xs ys (IsDistinct-tail same x xs d) e h.1)
+        IsDistinct-cons same x (xs ++ ys) (All-both _ xs ys (IsDistinct-head same x xs d) (none-list_any (same x) ys h.0))
+        (IsDistinct-both xs ys (IsDistinct-tail same x xs d) e h.1)
 
     pub IsDistinct-left : (xs ys : List A) → IsDistinct same (xs ++ ys) → IsDistinct same xs
     unfolding IsDistinct
@@ -132,7 +136,8 @@ module _ {A : Type 0} where
 
     pub IsDistinct-apart : (xs ys : List A) → IsDistinct same (xs ++ ys) → AreApart xs ys
     IsDistinct-apart [] ys d = tt
-    IsDistinct-apart (x ∷ xs) ys d = (list_any-none (same x) ys (All-parts _ xs ys (IsDistinct-head same x (xs ++ ys) d)).1, IsDistinct-apart xs ys (IsDistinct-tail same x (xs ++ ys) d))
+    IsDistinct-apart (x ∷ xs) ys d =
+        (list_any-none (same x) ys (All-parts _ xs ys (IsDistinct-head same x (xs ++ ys) d)).1, IsDistinct-apart xs ys (IsDistinct-tail same x (xs ++ ys) d))
 
     -- what a list has stays in its union with another
     pub list_any-union : (p : A → Bool) (xs ys : List A) → list_any p xs ≡ true → list_any p (union same xs ys) ≡ true
@@ -146,7 +151,8 @@ module _ {A : Type 0} where
     -- and what the other has is there
     pub AreAmong-union : ((x : A) → same x x ≡ true) → (xs ys : List A) → AreAmong ys (union same xs ys)
     AreAmong-union itself xs [] = tt
-    AreAmong-union itself xs (y ∷ ys) = (list_any-union (same y) (with_new same xs y) ys (by (list_any (same y) xs) refl), AreAmong-union itself (with_new same xs y) ys)
+    AreAmong-union itself xs (y ∷ ys) =
+        (list_any-union (same y) (with_new same xs y) ys (by (list_any (same y) xs) refl), AreAmong-union itself (with_new same xs y) ys)
       where
         by : (b : Bool) → list_any (same y) xs ≡ b → list_any (same y) (cond b xs (xs ++ y ∷ [])) ≡ true
         by true e = e
@@ -155,8 +161,11 @@ module _ {A : Type 0} where
     -- each element of a list is in it
     pub AreAmong-itself : ((x : A) → same x x ≡ true) → (xs : List A) → AreAmong xs xs
     AreAmong-itself itself [] = tt
-    AreAmong-itself itself (x ∷ xs) =
-        (ap (λ b. b || list_any (same x) xs) (itself x), All-implied (λ y. list_any (same y) xs ≡ true) (λ y. list_any (same y) (x ∷ xs) ≡ true) (λ y h. list_any-right (same y) (x ∷ []) xs h) xs (AreAmong-itself itself xs))
+    AreAmong-itself itself (x ∷ xs) = (
+      ap (λ b. b || list_any (same x) xs) (itself x),
+      All-implied (λ y. list_any (same y) xs ≡ true) (λ y. list_any (same y) (x ∷ xs) ≡ true) (λ y h. list_any-right (same y) (x ∷ []) xs h) xs
+          (AreAmong-itself itself xs),
+    )
 
     -- what holds of each element of a union holds of each in its lists, where `same` is equality
     module _ (is : (x y : A) → same x y ≡ true → x ≡ y) where
@@ -183,11 +192,13 @@ module _ {A : Type 0} where
           (first.0, (first.1, rest.1))
 
 -- each of the mapped elements, and each element
-pub All-mapped : {A B : Type 0} (f : A → B) (P : A → Type 0) (Q : B → Type 0) → ((x : A) → P x → Q (f x)) → (xs : List A) → AllByRecursion P xs → AllByRecursion Q (map f xs)
+pub All-mapped : {A B : Type 0} (f : A → B) (P : A → Type 0) (Q : B → Type 0) → ((x : A) → P x → Q (f x)) → (xs : List A) → AllByRecursion P xs
+    → AllByRecursion Q (map f xs)
 All-mapped f P Q g [] h = tt
 All-mapped f P Q g (x ∷ xs) h = (g x h.0, All-mapped f P Q g xs h.1)
 
-pub All-unmapped : {A B : Type 0} (f : A → B) (P : A → Type 0) (Q : B → Type 0) → ((x : A) → Q (f x) → P x) → (xs : List A) → AllByRecursion Q (map f xs) → AllByRecursion P xs
+pub All-unmapped : {A B : Type 0} (f : A → B) (P : A → Type 0) (Q : B → Type 0) → ((x : A) → Q (f x) → P x) → (xs : List A) → AllByRecursion Q (map f xs)
+    → AllByRecursion P xs
 All-unmapped f P Q g [] h = tt
 All-unmapped f P Q g (x ∷ xs) h = (g x h.0, All-unmapped f P Q g xs h.1)
 

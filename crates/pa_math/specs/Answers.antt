@@ -16,6 +16,11 @@ abbrev pub told_as : {A E F : Type 0} → (E → F) → Result A E → Result A 
 told_as tell (Ok a) = Ok a
 told_as tell (Err e) = Err (tell e)
 
+-- the same answer, with its value seen in another way
+abbrev pub seen_as : {T V E : Type 0} → (T → V) → Result T E → Result V E
+seen_as view (Ok value) = Ok (view value)
+seen_as view (Err fault) = Err fault
+
 -- what follows from what is there, or this where nothing is
 abbrev pub given : {A B : Type 0} → B → Option A → (A → B) → B
 given otherwise None next = otherwise

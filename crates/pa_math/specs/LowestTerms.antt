@@ -28,7 +28,8 @@ coprime_over : (g a b n d : ℕ) → 0 < g → IsGcd n d g → a * g ≡ n → b
 coprime_over g a b n d up is p q =
     let h : ℕ = gcd_of a b in
     let both = IsGcd-gcd_of a b in
-    let greatest : (h * g) ∣ g = is.2 (h * g) (subst (λ t. (h * g) ∣ t) p (mul-dvd-mul_right h both.0 g)) (subst (λ t. (h * g) ∣ t) q (mul-dvd-mul_right h both.1 g)) in
+    let greatest : (h * g) ∣ g =
+    is.2 (h * g) (subst (λ t. (h * g) ∣ t) p (mul-dvd-mul_right h both.0 g)) (subst (λ t. (h * g) ∣ t) q (mul-dvd-mul_right h both.1 g)) in
     eq-one_of_dvd-one (dvd_of_mul-dvd-mul_right h up (subst (λ t. (h * g) ∣ t) (sym (one-mul g)) greatest))
 
 -- the quotients by the greatest common divisor are coprime

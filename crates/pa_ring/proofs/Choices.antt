@@ -1,5 +1,6 @@
 -- The pigeonhole principle, and how long a sequence of choices can be in which none comes twice.
-use Rattle.std.proofs.Common.{◌≡◌, ℕ, zero, suc, ◌+◌, ◌<◌, ◌≤◌, ◌⊎◌, inl, inr, ⊎_elim, Bool, true, false, cond, eqb, List, [], ◌∷◌, ◌++◌, map, length, Contains, refl, sym, ap, ◌∙◌, subst, arith}
+use Rattle.std.proofs.Common.{◌≡◌, ℕ, zero, suc, ◌+◌, ◌<◌, ◌≤◌, ◌⊎◌, inl, inr, ⊎_elim, Bool, true, false, cond, eqb}
+use Rattle.std.proofs.Common.{List, [], ◌∷◌, ◌++◌, map, length, Contains, refl, sym, ap, ◌∙◌, subst, arith}
 use mathlib.Core.Path.{ap₂}
 use Rattle.std.proofs.lemmas.Bool.{cases_lt, eqb-true, eq-eqb, true≢false}
 use Rattle.std.proofs.lemmas.List.{length-map}
@@ -147,7 +148,8 @@ chosen_is_listed zero xs = inl refl
 chosen_is_listed (suc n) xs =
     let r = chosen_is_listed n xs in
     by_test (list_any (eqb n) xs)
-    (λ t. rw t (IsIn-append_left (n ∷ chosen n xs) (map (λ ys. n ∷ ys) (all_choices n (length (chosen n xs)))) (all_choices n (suc (length (chosen n xs)))) (IsIn-map (λ ys. n ∷ ys) (chosen n xs) (all_choices n (length (chosen n xs))) r)))
+    (λ t. rw t (IsIn-append_left (n ∷ chosen n xs) (map (λ ys. n ∷ ys) (all_choices n (length (chosen n xs)))) (all_choices n (suc (length (chosen n xs))))
+    (IsIn-map (λ ys. n ∷ ys) (chosen n xs) (all_choices n (length (chosen n xs))) r)))
     (λ f. rw f (one_place_more n (length (chosen n xs)) (chosen n xs) r))
 
 -- ---- sequences
@@ -205,7 +207,8 @@ pub increasing_once : (xs : List ℕ) → IsStrictlyIncreasing xs → NoRepeats 
 increasing_once [] h = tt
 increasing_once (x ∷ xs) h = (λ i. absurd (omega (arith, first_is_least x x xs h (IsIn-from_Contains xs x i))), increasing_once xs (increasing_tail x xs h))
 
-same_increasing_in : (xs ys : List ℕ) → IsStrictlyIncreasing xs → IsStrictlyIncreasing ys → ((x : ℕ) → IsIn x xs → IsIn x ys) → ((x : ℕ) → IsIn x ys → IsIn x xs) → xs ≡ ys
+same_increasing_in : (xs ys : List ℕ) → IsStrictlyIncreasing xs → IsStrictlyIncreasing ys → ((x : ℕ) → IsIn x xs → IsIn x ys)
+    → ((x : ℕ) → IsIn x ys → IsIn x xs) → xs ≡ ys
 same_increasing_in [] [] h k f g = refl
 same_increasing_in [] (y ∷ ys) h k f g = absurd (g y (inl refl))
 same_increasing_in (x ∷ xs) [] h k f g = absurd (f x (inl refl))
@@ -229,7 +232,7 @@ same_increasing xs ys h k same =
     (λ x i. IsIn-from_Contains xs x ((same x).1 (Contains-from_IsIn ys x i)))
 
 -- The same for sorted choices, of which no two are equal.
-pub no_sorted_choice_twice : (n k m : ℕ) (basis : ℕ → List ℕ) → ((i : ℕ) → i < m → IsChoice n k (basis i)) → ((i : ℕ) → i < m → IsStrictlyIncreasing (basis i)) →
-    ((i j : ℕ) → i < j → j < m → ¬ (basis i ≡ basis j)) → m ≤ choices n k
+pub no_sorted_choice_twice : (n k m : ℕ) (basis : ℕ → List ℕ) → ((i : ℕ) → i < m → IsChoice n k (basis i)) → ((i : ℕ) → i < m → IsStrictlyIncreasing (basis i))
+    → ((i j : ℕ) → i < j → j < m → ¬ (basis i ≡ basis j)) → m ≤ choices n k
 no_sorted_choice_twice n k m basis each sorted apart =
     no_choice_twice n k m basis each (λ i j l h same. apart i j l h (same_increasing (basis i) (basis j) (sorted i (omega arith)) (sorted j h) same))

@@ -20,7 +20,8 @@ square_of_sum : (a b : ℤ) → (pos 4 *ℤ a *ℤ b) ≤ℤ ((a +ℤ b) *ℤ (a
 square_of_sum a b = by_le (a ∷ b ∷ []) (square_nonneg (a -ℤ b)) (search reads depth 40) tt
 
 -- a sum of three inequalities with weights that are not negative
-weighted_sum : (u v w a b c d e f : ℤ) → pos 0 ≤ℤ u → pos 0 ≤ℤ v → pos 0 ≤ℤ w → a ≤ℤ d → b ≤ℤ e → c ≤ℤ f → (u *ℤ a +ℤ v *ℤ b +ℤ w *ℤ c) ≤ℤ (u *ℤ d +ℤ v *ℤ e +ℤ w *ℤ f)
+weighted_sum : (u v w a b c d e f : ℤ) → pos 0 ≤ℤ u → pos 0 ≤ℤ v → pos 0 ≤ℤ w → a ≤ℤ d → b ≤ℤ e → c ≤ℤ f
+    → (u *ℤ a +ℤ v *ℤ b +ℤ w *ℤ c) ≤ℤ (u *ℤ d +ℤ v *ℤ e +ℤ w *ℤ f)
 weighted_sum u v w a b c d e f hu hv hw h k l = by_le (u ∷ v ∷ w ∷ a ∷ b ∷ c ∷ d ∷ e ∷ f ∷ []) (hu · gap h ∔ hv · gap k ∔ hw · gap l) (search reads depth 40) tt
 
 -- a strict inequality with a positive factor, and a weak one

@@ -60,15 +60,18 @@ pub by_ring : (ρ : List ℤ) {x y : ℤ} (s : Sides ℤ_ring ρ x y) → AllZer
 by_ring ρ s h = rings.by_ring ℤ_ring ρ s h
 
 -- an equation from others: `w`, which is 0, is the difference of its sides
-pub by_equations : (ρ : List ℤ) {x y w : ℤ} → w ≡ pos 0 → (s : Differ ℤ_ring ρ x y w) → AllZero (normal (minus s.left.term (plus s.right.term s.difference.term))) → x ≡ y
+pub by_equations : (ρ : List ℤ) {x y w : ℤ} → w ≡ pos 0 → (s : Differ ℤ_ring ρ x y w)
+    → AllZero (normal (minus s.left.term (plus s.right.term s.difference.term))) → x ≡ y
 by_equations ρ e s h = rings.by_equations ℤ_ring ρ e s h
 
 -- an inequality: `w`, which is not negative, is the difference of its sides
-pub by_le : (ρ : List ℤ) {x y w : ℤ} → pos 0 ≤ℤ w → (s : Differ ℤ_ring ρ x y w) → AllZero (normal (minus s.right.term (plus s.left.term s.difference.term))) → x ≤ℤ y
+pub by_le : (ρ : List ℤ) {x y w : ℤ} → pos 0 ≤ℤ w → (s : Differ ℤ_ring ρ x y w) → AllZero (normal (minus s.right.term (plus s.left.term s.difference.term)))
+    → x ≤ℤ y
 by_le ρ h s z = orders.by_le ℤ_order ρ h s z
 
 -- a strict inequality: `w`, which is positive, is the difference of its sides
-pub by_lt : (ρ : List ℤ) {x y w : ℤ} → pos 0 <ℤ w → (s : Differ ℤ_ring ρ x y w) → AllZero (normal (minus s.right.term (plus s.left.term s.difference.term))) → x <ℤ y
+pub by_lt : (ρ : List ℤ) {x y w : ℤ} → pos 0 <ℤ w → (s : Differ ℤ_ring ρ x y w) → AllZero (normal (minus s.right.term (plus s.left.term s.difference.term)))
+    → x <ℤ y
 by_lt ρ h s z = orders.by_lt ℤ_order ρ h s z
 
 -- ---- the same, with a term for each number by itself

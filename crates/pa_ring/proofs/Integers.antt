@@ -48,7 +48,8 @@ one-*ℤ a = omega (arith, ints)
 -- ---- signs
 -- the sign of the first factor is the sign of the product
 pub neg_ℤ-*ℤ : (a b : ℤ) → neg_ℤ a *ℤ b ≡ neg_ℤ (a *ℤ b)
-neg_ℤ-*ℤ a b = omega (arith, ints, ap (λ t. t * up b) (neg_is a).0, ap (λ t. t * down b) (neg_is a).0, ap (λ t. t * up b) (neg_is a).1, ap (λ t. t * down b) (neg_is a).1)
+neg_ℤ-*ℤ a b =
+    omega (arith, ints, ap (λ t. t * up b) (neg_is a).0, ap (λ t. t * down b) (neg_is a).0, ap (λ t. t * up b) (neg_is a).1, ap (λ t. t * down b) (neg_is a).1)
 
 -- the sign of the second factor is the sign of the product
 pub *ℤ-neg_ℤ : (a b : ℤ) → a *ℤ neg_ℤ b ≡ neg_ℤ (a *ℤ b)

@@ -37,7 +37,8 @@ pub All-from_filter : {A : Type 0} (P : A → Type 0) (test : A → Bool) (xs : 
 All-from_filter P test [] h = All-nil (λ x. test x ≡ true → P x)
 All-from_filter P test (x ∷ xs) h =
     by_test (test x)
-    (λ t. let k = rw t at h in All-cons (λ y. test y ≡ true → P y) x xs (λ _. All-head P x (filter test xs) k) (All-from_filter P test xs (All-tail P x (filter test xs) k)))
+    (λ t. let k = rw t at h in
+    All-cons (λ y. test y ≡ true → P y) x xs (λ _. All-head P x (filter test xs) k) (All-from_filter P test xs (All-tail P x (filter test xs) k)))
     (λ f. All-cons (λ y. test y ≡ true → P y) x xs (λ t. absurd (true≢false (sym t ∙ f))) (All-from_filter P test xs (rw f at h)))
 
 -- ---- lists of lists

@@ -6,7 +6,8 @@ use mathlib.Core.Logic.{⊎_elim}
 use lib.IntN.{pos, ◌+ℤ◌}
 use Rattle.pa_ring.specs.OrderedRing.{OrderedRing}
 use Rattle.pa_ring.proofs.RingTactics.{reads}
-use Rattle.pa_ring.proofs.OrderTactics.{gap, rise, weak, lt_unless, by_le, by_lt, ◌·◌ as nonneg_times, ◌∔◌ as nonneg_plus, ◌⊙◌ as positive_times, ◌⊕◌ as positive_plus}
+use Rattle.pa_ring.proofs.OrderTactics.{gap, rise, weak, lt_unless, by_le, by_lt, ◌·◌ as nonneg_times}
+use Rattle.pa_ring.proofs.OrderTactics.{◌∔◌ as nonneg_plus, ◌⊙◌ as positive_times, ◌⊕◌ as positive_plus}
 
 module _ (R : OrderedRing) where
   open R use {ring as laws, ◌≤◌, ◌<◌, le_refl, le_trans, le_antisym, lt_or_le, lt_not_le, lt-le, zero_lt_one}
@@ -67,7 +68,8 @@ module _ (R : OrderedRing) where
   -- products keep the order, factor by factor
   pub mul_le_both : (x y z w : carrier) → of (pos 0) ≤ x → x ≤ y → of (pos 0) ≤ z → z ≤ w → x * z ≤ y * w
   mul_le_both x y z w x0 h z0 k =
-      by_le R (x ∷ y ∷ z ∷ w ∷ []) (nonneg_plus R (nonneg_times R (gap R h) (le_trans (of (pos 0)) z w z0 k)) (nonneg_times R x0 (gap R k))) (search reads depth 40) tt
+      by_le R (x ∷ y ∷ z ∷ w ∷ []) (nonneg_plus R (nonneg_times R (gap R h) (le_trans (of (pos 0)) z w z0 k)) (nonneg_times R x0 (gap R k)))
+      (search reads depth 40) tt
 
   -- a square is not negative
   pub square_nonneg : (x : carrier) → of (pos 0) ≤ x * x

@@ -149,7 +149,8 @@ module _ (R : CommutativeRing) where
   -- -1 times a number
   pub minus_one-mul : (x : carrier) → of (negsuc 0) * x ≡ neg x
   minus_one-mul x = add_cancel_left x (of (negsuc 0) * x) (neg x)
-      (ap (λ t. t + of (negsuc 0) * x) (sym (one-mul x)) ∙ sym (add-mul (of (pos 1)) (of (negsuc 0)) x) ∙ ap (λ t. t * x) (sym (of-add (pos 1) (negsuc 0))) ∙ zero-mul x ∙ sym (add-neg x))
+      (ap (λ t. t + of (negsuc 0) * x) (sym (one-mul x)) ∙ sym (add-mul (of (pos 1)) (of (negsuc 0)) x) ∙ ap (λ t. t * x) (sym (of-add (pos 1) (negsuc 0)))
+      ∙ zero-mul x ∙ sym (add-neg x))
 
   -- numbers whose difference is 0 are equal
   pub same_from_difference : (x y : carrier) → x + neg y ≡ of (pos 0) → x ≡ y
@@ -206,7 +207,8 @@ module _ (R : CommutativeRing) where
   insert_step Ordering.lt k l m n x r s p q ρ f e g h =
       ap (λ t. of k * value_of_product m ρ + t) e ∙ sym (add_assoc (of k * value_of_product m ρ) x (of l * value_of_product n ρ + value_of_sum p ρ))
   insert_step Ordering.eq k l m n x r s p q ρ f e g h =
-      subst (λ t. of (k +ℤ l) * value_of_product n ρ + value_of_sum s ρ ≡ of k * value_of_product t ρ + x + (of l * value_of_product n ρ + value_of_sum p ρ)) (sym (f refl))
+      subst (λ t. of (k +ℤ l) * value_of_product n ρ + value_of_sum s ρ ≡ of k * value_of_product t ρ + x + (of l * value_of_product n ρ + value_of_sum p ρ))
+      (sym (f refl))
       (ap₂ ◌+◌ (ap (λ t. t * value_of_product n ρ) (of-add k l) ∙ add-mul (of k) (of l) (value_of_product n ρ)) g
       ∙ sums (of k * value_of_product n ρ) (of l * value_of_product n ρ) x (value_of_sum p ρ))
     where
@@ -221,7 +223,8 @@ module _ (R : CommutativeRing) where
       value_of_sum (insert_then k m rest p) ρ ≡ of k * value_of_product m ρ + x + value_of_sum p ρ
   insert_then-value k m rest x none ρ h = ap (λ t. of k * value_of_product m ρ + t) (h none) ∙ sym (add_assoc (of k * value_of_product m ρ) x (of (pos 0)))
   insert_then-value k m rest x (more l n p) ρ h =
-      insert_step (order m n) k l m n x (rest (more l n p)) (rest p) p (insert_then k m rest p) ρ (order_eq m n) (h (more l n p)) (h p) (insert_then-value k m rest x p ρ h)
+      insert_step (order m n) k l m n x (rest (more l n p)) (rest p) p (insert_then k m rest p) ρ (order_eq m n) (h (more l n p)) (h p)
+      (insert_then-value k m rest x p ρ h)
 
   sum-value : (p q : Poly) (ρ : List carrier) → value_of_sum (sum p q) ρ ≡ value_of_sum p ρ + value_of_sum q ρ
   sum-value none q ρ = sym (zero-add (value_of_sum q ρ))

@@ -184,7 +184,8 @@ module _ (R : CommutativeRing) where
   pub dot-weighted_sum : (ws : List carrier) (rows : List (List carrier)) (ps : List carrier) → dot R (weighted_sum R ws rows) ps ≡ dot R ws (dots R rows ps)
   dot-weighted_sum [] rows ps = refl
   dot-weighted_sum (w ∷ ws) [] ps = refl
-  dot-weighted_sum (w ∷ ws) (row ∷ rows) ps = dot-sum_of (times R w row) (weighted_sum R ws rows) ps ∙ ap₂ ◌+◌ (dot-times w row ps) (dot-weighted_sum ws rows ps)
+  dot-weighted_sum (w ∷ ws) (row ∷ rows) ps =
+      dot-sum_of (times R w row) (weighted_sum R ws rows) ps ∙ ap₂ ◌+◌ (dot-times w row ps) (dot-weighted_sum ws rows ps)
 
   -- the number of weighted rows at a place
   pub number_at-weighted_sum : (ws : List carrier) (rows : List (List carrier)) (k : ℕ) → number_at R (weighted_sum R ws rows) k ≡ dot R ws (column R k rows)
@@ -229,7 +230,8 @@ module _ (R : CommutativeRing) where
 
   -- a sum of products, place by place
   pub dot_is_sum_below : (n : ℕ) (xs ys : List carrier) → length xs ≤ n → dot R xs ys ≡ sum_below R n (λ i. number_at R xs i * number_at R ys i)
-  dot_is_sum_below n [] ys h = sym (sum_below_zeros n) ∙ sum_below_same n (λ i. of (pos 0)) (λ i. of (pos 0) * number_at R ys i) (λ i k. sym (zero-mul R (number_at R ys i)))
+  dot_is_sum_below n [] ys h =
+      sym (sum_below_zeros n) ∙ sum_below_same n (λ i. of (pos 0)) (λ i. of (pos 0) * number_at R ys i) (λ i k. sym (zero-mul R (number_at R ys i)))
   dot_is_sum_below zero (x ∷ xs) ys h = absurd (omega arith)
   dot_is_sum_below (suc n) (x ∷ xs) [] h =
       sym (sum_below_zeros (suc n))

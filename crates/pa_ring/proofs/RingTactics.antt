@@ -87,7 +87,8 @@ module _ (R : CommutativeRing) where
   abbrev pub place_10 : {ρ : List carrier} {x0 x1 x2 x3 x4 x5 x6 x7 x8 x9 x : carrier} → Reads (x0 ∷ x1 ∷ x2 ∷ x3 ∷ x4 ∷ x5 ∷ x6 ∷ x7 ∷ x8 ∷ x9 ∷ x ∷ ρ) x
   place_10 = record { term = var 10; is = refl }
 
-  abbrev pub place_11 : {ρ : List carrier} {x0 x1 x2 x3 x4 x5 x6 x7 x8 x9 x10 x : carrier} → Reads (x0 ∷ x1 ∷ x2 ∷ x3 ∷ x4 ∷ x5 ∷ x6 ∷ x7 ∷ x8 ∷ x9 ∷ x10 ∷ x ∷ ρ) x
+  abbrev pub place_11 : {ρ : List carrier} {x0 x1 x2 x3 x4 x5 x6 x7 x8 x9 x10 x : carrier}
+      → Reads (x0 ∷ x1 ∷ x2 ∷ x3 ∷ x4 ∷ x5 ∷ x6 ∷ x7 ∷ x8 ∷ x9 ∷ x10 ∷ x ∷ ρ) x
   place_11 = record { term = var 11; is = refl }
 
   -- both sides of an equation
