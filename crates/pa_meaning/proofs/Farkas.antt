@@ -1,7 +1,7 @@
 -- Farkas' lemma, the easy half: what weights prove holds at each point that meets the rows.
-use Rattle.std.proofs.Common.{◌≡◌, ℕ, zero, suc, ◌⊎◌, inl, inr, List, [], ◌∷◌, replicate, refl, ◌∙◌, arith}
+use Rattle.std.proofs.Common.{◌≡◌, ℕ, zero, suc, ◌⊎◌, inl, inr, List, [], ◌∷◌, All, replicate, refl, ◌∙◌, arith}
 use Rattle.std.proofs.lemmas.Int.{ints}
-use Rattle.std.proofs.lemmas.List.Elements.{All-head, All-tail}
+use Rattle.std.proofs.lemmas.List.Elements.{All-nil, All-cons, All-head, All-tail}
 use lib.IntN.{ℤ, pos, ◌*ℤ◌}
 use lib.Signed.{◌≤ℤ◌, ◌<ℤ◌}
 use Rattle.pa_ring.specs.Sums.{number_at, dot, times}
@@ -17,19 +17,29 @@ Meets-row_at [] x i h = record { meets = omega (arith, ints) }
 Meets-row_at (r ∷ rows) x zero h = All-head (λ r. Meets r x) r rows h
 Meets-row_at (r ∷ rows) x (suc i) h = Meets-row_at rows x i (All-tail (λ r. Meets r x) r rows h)
 
--- a point that meets the rows meets their sum with weights that are not negative
-pub Meets-combined : (parts : List (ℕ × ℤ)) (rows : List Row) (x : Point) → NoneNegative parts → MeetsAll rows x → Meets (combined parts rows) x
-Meets-combined [] rows x n h = record { meets = omega (arith, ints) }
-Meets-combined (w ∷ ws) rows x n h =
+-- a point meets a weighted sum of rows where it meets each row that the weights name
+pub Meets-combined_named : (parts : List (ℕ × ℤ)) (rows : List Row) (x : Point) → NoneNegative parts → All (λ part. Meets (row_at rows part.0) x) parts
+    → Meets (combined parts rows) x
+Meets-combined_named [] rows x n h = record { meets = omega (arith, ints) }
+Meets-combined_named (w ∷ ws) rows x n h =
     let r : Row = row_at rows w.0 in
     let s : Row = combined ws rows in
-    let now = gap (Meets-row_at rows x w.0 h).meets in
-    let rest = gap (Meets-combined ws rows x (All-tail (λ part. pos 0 ≤ℤ part.1) w ws n) h).meets in
+    let now = gap (All-head (λ part. Meets (row_at rows part.0) x) w ws h).meets in
+    let rest = gap (Meets-combined_named ws rows x (All-tail (λ part. pos 0 ≤ℤ part.1) w ws n)
+    (All-tail (λ part. Meets (row_at rows part.0) x) w ws h)).meets in
     let weight : pos 0 ≤ℤ w.1 = All-head (λ part. pos 0 ≤ℤ part.1) w ws n in
     record {
       meets = rw (dot-sum_of (times w.1 r.c) s.c x.p, dot-times w.1 r.c x.p)
           (by_le (w.1 ∷ dot r.c x.p ∷ dot s.c x.p ∷ r.b ∷ s.b ∷ x.q ∷ []) (weight · now ∔ rest) (search reads depth 40) tt);
     }
+
+-- and so where it meets all rows
+all_named : (parts : List (ℕ × ℤ)) (rows : List Row) (x : Point) → MeetsAll rows x → All (λ part. Meets (row_at rows part.0) x) parts
+all_named [] rows x h = All-nil (λ part. Meets (row_at rows part.0) x)
+all_named (w ∷ ws) rows x h = All-cons (λ part. Meets (row_at rows part.0) x) w ws (Meets-row_at rows x w.0 h) (all_named ws rows x h)
+
+pub Meets-combined : (parts : List (ℕ × ℤ)) (rows : List Row) (x : Point) → NoneNegative parts → MeetsAll rows x → Meets (combined parts rows) x
+Meets-combined parts rows x n h = Meets-combined_named parts rows x n (all_named parts rows x h)
 
 -- a point meets the row that a sum implies
 pub Meets-implied : (den : ℤ) (sum row : Row) (x : Point) → pos 0 <ℤ den → pos 0 <ℤ x.q → Implies den sum row → Meets sum x → Meets row x
@@ -46,15 +56,19 @@ contradiction_unmet row x positive c h =
     let zero_sum : dot row.c x.p ≡ pos 0 = dot_zeros row.c x.p c.coefficients in
     absurd (omega (arith, ints, h.meets, <ℤ-*ℤ row.b (pos 0) x.q c.bound positive))
 
--- Weights that prove a row: each point that meets the rows meets the row.
-pub Meets-proved : (w : Weights) (rows : List Row) (row : Row) (x : Point) → pos 0 <ℤ x.q → Proves w rows row → MeetsAll rows x → Meets row x
-Meets-proved w rows row x positive p h = shown p.shown
+-- Weights that prove a row: each point that meets the rows that they name meets the row.
+pub Meets-proved_named : (w : Weights) (rows : List Row) (row : Row) (x : Point) → pos 0 <ℤ x.q → Proves w rows row
+    → All (λ part. Meets (row_at rows part.0) x) w.parts → Meets row x
+Meets-proved_named w rows row x positive p h = shown p.shown
   where
     shown : Implies w.den (combined w.parts rows) row ⊎ IsContradiction (combined w.parts rows) → Meets row x
-    shown (inl i) = Meets-implied w.den (combined w.parts rows) row x p.positive positive i (Meets-combined w.parts rows x p.weights h)
-    shown (inr c) = absurd (contradiction_unmet (combined w.parts rows) x positive c (Meets-combined w.parts rows x p.weights h))
+    shown (inl i) = Meets-implied w.den (combined w.parts rows) row x p.positive positive i (Meets-combined_named w.parts rows x p.weights h)
+    shown (inr c) = absurd (contradiction_unmet (combined w.parts rows) x positive c (Meets-combined_named w.parts rows x p.weights h))
 
-impossible_is_contradiction : (n : ℕ) → IsContradiction (impossible n)
+pub Meets-proved : (w : Weights) (rows : List Row) (row : Row) (x : Point) → pos 0 <ℤ x.q → Proves w rows row → MeetsAll rows x → Meets row x
+Meets-proved w rows row x positive p h = Meets-proved_named w rows row x positive p (all_named w.parts rows x h)
+
+pub impossible_is_contradiction : (n : ℕ) → IsContradiction (impossible n)
 impossible_is_contradiction n = record { coefficients = zeros n; bound = omega (arith, ints) }
   where
     zeros : (n i : ℕ) → number_at (replicate n (pos 0)) i ≡ pos 0
@@ -64,4 +78,5 @@ impossible_is_contradiction n = record { coefficients = zeros n; bound = omega (
 
 -- Weights that prove `0 <= -1`: no point meets the rows.
 pub none_meets : (w : Weights) (rows : List Row) (n : ℕ) (x : Point) → pos 0 <ℤ x.q → Proves w rows (impossible n) → MeetsAll rows x → ⊥
-none_meets w rows n x positive p h = contradiction_unmet (impossible n) x positive (impossible_is_contradiction n) (Meets-proved w rows (impossible n) x positive p h)
+none_meets w rows n x positive p h = contradiction_unmet (impossible n) x positive (impossible_is_contradiction n)
+    (Meets-proved w rows (impossible n) x positive p h)

@@ -1,5 +1,15 @@
 pub mod Farkas
 pub mod PrimitiveRows
-pub mod Columns
-pub mod Elimination
+pub mod Extensions
 pub mod Examples
+pub mod Excluded
+pub mod Shifting
+pub mod Places
+pub mod NamedRows
+pub mod PartRows
+pub mod CompositionPorts
+pub mod Moves
+pub mod Directions
+pub mod QuotientPorts
+pub mod StuckGuarantee
+pub mod Nominal

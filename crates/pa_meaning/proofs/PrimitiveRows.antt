@@ -10,8 +10,7 @@ use Rattle.pa_ring.proofs.IntegerTactics.{by_le, reads}
 use Rattle.pa_ring.proofs.Sums.{number_at-times, without-times, without_same, dot-times, dot_same}
 use Rattle.pa_math.specs.Divisors.{gcd_all, quotients}
 use Rattle.pa_math.proofs.ListDivisors.{gcd_all_divides, quotients_exact, primitive_quotients}
-use Rattle.pa_meaning.specs.Rows.{Row, Point, Meets}
-use Rattle.pa_meaning.specs.Elimination.{primitive, without_column}
+use Rattle.pa_meaning.specs.Rows.{Row, Point, Meets, primitive, without_column}
 
 -- ---- multiples of a row
 -- the first row is g times the second
@@ -56,7 +55,7 @@ number_at-quotients d (x ∷ xs) zero = refl
 number_at-quotients d (x ∷ xs) (suc i) = number_at-quotients d xs i
 
 -- each number of a list is the greatest common divisor times its quotient
-number_from_quotient : (xs : List ℤ) (i : ℕ) → number_at xs i ≡ gcd_all xs *ℤ number_at (quotients (gcd_all xs) xs) i
+pub number_from_quotient : (xs : List ℤ) (i : ℕ) → number_at xs i ≡ gcd_all xs *ℤ number_at (quotients (gcd_all xs) xs) i
 number_from_quotient xs i =
     sym (ap (λ t. number_at t i) (quotients_exact (gcd_all xs) xs (gcd_all_divides xs))) ∙ number_at-map (gcd_all xs) (quotients (gcd_all xs) xs) i
 
@@ -103,8 +102,10 @@ Meets-primitive row x =
 pub without_primitive_met : (k : ℕ) (row : Row) (x : Point) → Meets (without_column k (primitive row)) x ↔ Meets (without_column k row) x
 without_primitive_met k row x =
     let (g, up, m) = primitive_factor row in
-    let n = without_multiple k g row (primitive row) m in
-    (multiplied_met g (without_column k row) (without_column k (primitive row)) x up n, divided_met g (without_column k row) (without_column k (primitive row)) x up n)
+    let n = without_multiple k g row (primitive row) m in (
+      multiplied_met g (without_column k row) (without_column k (primitive row)) x up n,
+      divided_met g (without_column k row) (without_column k (primitive row)) x up n,
+    )
 
 -- the numbers of a primitive row have no common divisor but 1, unless all are 0
 pub primitive_coprime : (row : Row) → pos 0 <ℤ gcd_all (row.b ∷ row.c) → gcd_all ((primitive row).b ∷ (primitive row).c) ≡ pos 1

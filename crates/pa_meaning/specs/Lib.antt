@@ -3,4 +3,9 @@ pub mod Contracts
 pub mod Merge
 pub use Rattle.pa_ring.specs.Sums
 pub mod Weights
-pub mod Elimination
+pub mod Refinement
+pub mod Bounds
+pub mod Directions
+pub mod Composition
+pub mod Quotient
+pub mod Shifting

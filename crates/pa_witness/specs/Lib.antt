@@ -1,0 +1,11 @@
+pub mod Certificates
+pub mod Elimination
+pub mod Equalities
+pub mod Thinning
+pub mod Steps
+pub mod Shifts
+pub mod Projection
+pub mod Columns
+pub mod Discharge
+pub mod Basics
+pub mod Laws
