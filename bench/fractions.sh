@@ -1,7 +1,9 @@
 #!/bin/sh
 # Counts operations on fractions, in millions a second: the proved code beside the same work in plain Rust over i128.
 # Sizes: whole numbers of 20 bits, fractions of 20 and of 60 bits, and fractions of 120 bits whose denominators share most factors.
-# Each figure is the best of three runs. Both programs have to print the same check sums.
+# The last column has the proved code with fractions of 62 bits, for the sizes whose results they hold.
+# Each figure is the best of three runs. All have to print the same check sums. It can be called from any folder, and needs
+# rt; without rustc the proved code is measured alone.
 cd "$(dirname "$0")/.." || exit 1
 proved=crates/frac_bench/out/frac_bench
 work=$(mktemp -d) || exit 1
@@ -11,7 +13,7 @@ if ! command -v rt >/dev/null; then
     echo "skipped: rt is not here"
     exit 0
 fi
-(cd crates/frac_bench && rt run) >"$work/build.log" 2>&1 || {
+(cd crates/frac_bench && rt run <stdin) >"$work/build.log" 2>&1 || {
     tail -20 "$work/build.log"
     exit 1
 }
@@ -37,7 +39,7 @@ best() {
 
 rate() { awk -v ns="$1" -v start="$2" -v rounds="$3" 'BEGIN { printf "%8.2f", rounds * 64 * 1000 / (ns - start) }'; }
 
-printf '%-8s %-8s %10s %10s\n' operation size proved plain
+printf '%-8s %-8s %10s %10s %10s\n' operation size proved plain '62 bits'
 none=$(best "$proved" "none")
 for operation in gcd add sub mul compare; do
     for size in whole:200000 small:40000 long:10000 longest:5000; do
@@ -54,6 +56,17 @@ for operation in gcd add sub mul compare; do
             fi
             figure=$(rate "$theirs" "$none" "$rounds")
         fi
-        printf '%-8s %-8s %10s %10s\n' "$operation" "${size%:*}" "$(rate "$ours" "$none" "$rounds")" "$figure"
+        narrow='         -'
+        case $size in
+            whole:* | small:*)
+                least=$(best "$proved" "$line narrow")
+                cmp -s "$work/out" "$work/ours" || {
+                    echo "$line: the check sums at 62 bits differ"
+                    exit 1
+                }
+                narrow=$(rate "$least" "$none" "$rounds")
+                ;;
+        esac
+        printf '%-8s %-8s %10s %10s %10s\n' "$operation" "${size%:*}" "$(rate "$ours" "$none" "$rounds")" "$figure" "$narrow"
     done
 done

@@ -1,21 +1,19 @@
 //! Counts operations on fractions: reads lines as `mul small 1000`, an operation, a size of the
 //! operands and a number of rounds, does each over 64 pairs, and prints a check sum of the results.
+//! A fourth word `narrow` does so with fractions of 62 bits in place of 126.
 #![tactic(auto)]
 
 mod operands;
 
 use operands::{Size, pairs};
-use pa_frac::{Fraction, Wide, Wide126, gcd};
+use pa_frac::{Fraction, Narrow62, Wide, Wide126, gcd};
+use std::alloc::{AllocError, Global};
 use std::cmp::Ordering;
 use std::io;
 
 // The check sum of the results of one operation on each pair, as often as there are rounds.
-fn repeat<F: Fn(Wide126, Wide126) -> i128>(
-    rounds: u32,
-    pairs: &[(Wide126, Wide126)],
-    operation: F,
-) -> i128
-    requires { F.IsAlwaysCallable operation }
+fn repeat<F: Fraction, O: Fn(F, F) -> i128>(rounds: u32, pairs: &[(F, F)], operation: O) -> i128
+    requires { O.IsAlwaysCallable operation }
 {
     let mut sum = 0i128;
     for _ in 0..rounds {
@@ -26,7 +24,7 @@ fn repeat<F: Fn(Wide126, Wide126) -> i128>(
     sum
 }
 
-fn numbers(answer: Result<Wide126, Wide>) -> i128 {
+fn numbers<F: Fraction>(answer: Result<F, Wide>) -> i128 {
     match answer {
         Ok(value) => value.num() ^ value.den(),
         Err(_) => -1,
@@ -42,7 +40,7 @@ fn rank(answer: Result<Ordering, Wide>) -> i128 {
     }
 }
 
-fn work(operation: &str, rounds: u32, pairs: &[(Wide126, Wide126)]) -> Option<i128> {
+fn work<F: Fraction>(operation: &str, rounds: u32, pairs: &[(F, F)]) -> Option<i128> {
     match operation {
         "gcd" => Some(repeat(rounds, pairs, |x, y| {
             gcd(x.num().unsigned_abs(), y.den().unsigned_abs()).cast_signed()
@@ -53,6 +51,17 @@ fn work(operation: &str, rounds: u32, pairs: &[(Wide126, Wide126)]) -> Option<i1
         "compare" => Some(repeat(rounds, pairs, |x, y| rank(x.compare(y)))),
         _ => None,
     }
+}
+
+// The check sum of an operation of a name over the pairs of a size.
+fn counted<F: Fraction>(
+    alloc: Global,
+    operation: &str,
+    size: Size,
+    rounds: u32,
+) -> Result<Option<i128>, AllocError> {
+    let pairs = pairs::<F>(alloc, size)?;
+    Ok(work(operation, rounds, &pairs))
 }
 
 fn main(rt: HostRuntime) -> io::Result<()> {
@@ -67,8 +76,11 @@ fn main(rt: HostRuntime) -> io::Result<()> {
             continue;
         };
         let Some(size) = Size::of(size) else { continue };
-        let pairs = pairs(rt.alloc(), size)?;
-        if let Some(sum) = work(operation, rounds, &pairs) {
+        let sum = match words.next() {
+            Some("narrow") => counted::<Narrow62>(rt.alloc(), operation, size, rounds)?,
+            _ => counted::<Wide126>(rt.alloc(), operation, size, rounds)?,
+        };
+        if let Some(sum) = sum {
             println!(rt; "{operation} {sum}")?;
         }
     }

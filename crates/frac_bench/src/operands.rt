@@ -1,5 +1,5 @@
 // The operands: fractions of a size, from a fixed sequence.
-use pa_frac::{Fraction, Wide126};
+use pa_frac::Fraction;
 use std::alloc::{AllocError, Global};
 
 // How many pairs there are of a size.
@@ -38,8 +38,8 @@ fn next(state: u64) -> u64 {
     b ^ (b << 17)
 }
 
-/// The pairs of a size.
-pub(crate) fn pairs(alloc: Global, size: Size) -> Result<Vec<(Wide126, Wide126)>, AllocError> {
+/// The pairs of a size that the type holds.
+pub(crate) fn pairs<F: Fraction>(alloc: Global, size: Size) -> Result<Vec<(F, F)>, AllocError> {
     let mut pairs = Vec::new(alloc);
     let mut state = 88_172_645_463_325_252;
     for _ in 0..PAIRS {
@@ -64,7 +64,7 @@ const ABOVE: i128 = 3_209_015_938_253_828_020_717_412_870_544_621;
 const BELOW: i128 = 3_729_532_481_450_552_524_172_391_067_196_660;
 
 // An operand from two words.
-fn operand(size: Size, n: u64, d: u64) -> Option<Wide126> {
+fn operand<F: Fraction>(size: Size, n: u64, d: u64) -> Option<F> {
     let (num, den) = match size {
         Size::Whole => (i128::from(n >> 44), 1),
         Size::Small => (i128::from(n >> 44), i128::from(d >> 44)),
@@ -74,5 +74,5 @@ fn operand(size: Size, n: u64, d: u64) -> Option<Wide126> {
     if den < 1 {
         return None;
     }
-    Wide126::from_parts(num, den).ok()
+    F::from_parts(num, den).ok()
 }

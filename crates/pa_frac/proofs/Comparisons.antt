@@ -34,24 +34,29 @@ comparison_due w a b c d s t =
     let r = over_reduced c d t in
     same_comparison w (over a b) (over c d) _ a b c d l.0 l.1 r.0 r.1 (gcd_ℤ_comm d b) (compare_value a b c d s.positive t.positive)
 
-pub comparison_wide_left : (w : ℕ) (a b c d : ℤ) (e : Wide) → IsNarrow w a b → IsNarrow w c d → Err e ≡ within w (left_of a b d) → Err (record {}) ≡ comparison_in w (over a b) (over c d)
+pub comparison_wide_left : (w : ℕ) (a b c d : ℤ) (e : Wide) → IsNarrow w a b → IsNarrow w c d → Err e ≡ within w (left_of a b d) →
+    Err (record {}) ≡ comparison_in w (over a b) (over c d)
 comparison_wide_left w a b c d e s t h =
     two_wide_first w (left_of a b d) (right_of b c d) e (int_cmp (left_of a b d) (right_of b c d)) h ∙ comparison_due w a b c d s.reduced t.reduced
 
-pub comparison_wide_right : (w : ℕ) (a b c d : ℤ) (e : Wide) → IsNarrow w a b → IsNarrow w c d → Err e ≡ within w (right_of b c d) → Err (record {}) ≡ comparison_in w (over a b) (over c d)
+pub comparison_wide_right : (w : ℕ) (a b c d : ℤ) (e : Wide) → IsNarrow w a b → IsNarrow w c d → Err e ≡ within w (right_of b c d) →
+    Err (record {}) ≡ comparison_in w (over a b) (over c d)
 comparison_wide_right w a b c d e s t h =
     two_wide_second w (left_of a b d) (right_of b c d) e (int_cmp (left_of a b d) (right_of b c d)) h ∙ comparison_due w a b c d s.reduced t.reduced
 
-pub comparison_exact : (w : ℕ) (a b c d k l : ℤ) (o : Ordering) → IsNarrow w a b → IsNarrow w c d → Ok k ≡ within w (left_of a b d) → Ok l ≡ within w (right_of b c d) → o ≡ int_cmp k l →
+pub comparison_exact : (w : ℕ) (a b c d k l : ℤ) (o : Ordering) → IsNarrow w a b → IsNarrow w c d → Ok k ≡ within w (left_of a b d) →
+    Ok l ≡ within w (right_of b c d) → o ≡ int_cmp k l →
     Ok o ≡ comparison_in w (over a b) (over c d)
 comparison_exact w a b c d k l o s t hk hl ho =
     let x : ℤ = left_of a b d in
     let y : ℤ = right_of b c d in
-    ap Ok ho ∙ ap₂ (λ m n. Ok (int_cmp m n)) (within_ok w k x hk).1 (within_ok w l y hl).1 ∙ two_exact w x y k l (int_cmp x y) hk hl ∙ comparison_due w a b c d s.reduced t.reduced
+    ap Ok ho ∙ ap₂ (λ m n. Ok (int_cmp m n)) (within_ok w k x hk).1 (within_ok w l y hl).1 ∙ two_exact w x y k l (int_cmp x y) hk hl
+    ∙ comparison_due w a b c d s.reduced t.reduced
 
 -- over one denominator the numerators tell
 pub comparison_alike : (w : ℕ) (a b c d : ℤ) → b ≡ d → IsNarrow w a b → IsNarrow w c d → Ok (int_cmp a c) ≡ comparison_in w (over a b) (over c d)
-comparison_alike w a b c d same s t = subst (λ z. Ok (int_cmp a c) ≡ comparison_in w (over a b) (over c z)) same (one w a b c s (subst (IsNarrow w c) (sym same) t))
+comparison_alike w a b c d same s t =
+    subst (λ z. Ok (int_cmp a c) ≡ comparison_in w (over a b) (over c z)) same (one w a b c s (subst (IsNarrow w c) (sym same) t))
   where
     one : (w : ℕ) (a b c : ℤ) → IsNarrow w a b → IsNarrow w c b → Ok (int_cmp a c) ≡ comparison_in w (over a b) (over c b)
     one w a b c s t =

@@ -5,6 +5,7 @@ pub mod Products
 pub mod Sums
 pub mod Comparisons
 pub mod Quotients
+pub mod Ratios
 mod WidthExamples
 pub mod Signs
 pub mod Zeros

@@ -1,5 +1,5 @@
 -- A fraction by its numbers in lowest terms.
-use Rattle.std.proofs.Common.{◌≡◌, ◌<◌, ◌≤◌, ℕ, [], ◌∷◌, Ok, Err, refl, sym, ap₂, ◌∙◌, arith}
+use Rattle.std.proofs.Common.{◌≡◌, ◌<◌, ◌≤◌, ℕ, [], ◌∷◌, Ok, Err, refl, sym, ap, ap₂, ◌∙◌, arith}
 use Rattle.std.specs.Prelude.{unsigned_abs}
 use Rattle.std.specs.Int.RustNames.{int_div}
 use Rattle.std.proofs.lemmas.Int.{ints}
@@ -10,12 +10,12 @@ use Rattle.pa_math.specs.Rational.{ℚ, den, over}
 use Rattle.pa_math.proofs.Divisors.{gcd_ℤ_positive, gcd_of_at_most, Divides_from_factor, Divides_at_most}
 use Rattle.pa_math.proofs.Coprime.{coprime_one}
 use Rattle.pa_math.proofs.ReducedForms.{reduces, reduces_cross}
-use Rattle.pa_math.proofs.Rationals.{over_numbers, over_parts, reduced_form, same_over}
+use Rattle.pa_math.proofs.Rationals.{over_num, over_den, over_numbers, over_parts, reduced_form, same_over}
 use Rattle.pa_frac.specs.declared.wide.Wide.{Wide}
 use Rattle.pa_frac.specs.Width.{Fits, exact_or_wide, within}
 use Rattle.pa_frac.specs.Narrow.{IsNarrow}
 use Rattle.pa_frac.specs.Operations.{fraction_in}
-use Rattle.pa_frac.proofs.Width.{fits_from_passes, within_ok, exact_value, wide_below, two_exact, two_wide_first, two_wide_second}
+use Rattle.pa_frac.proofs.Width.{fits_from_passes, fits_widest, within_ok, exact_value, wide_below, two_exact, two_wide_first, two_wide_second}
 
 abs_positive : (z : ℤ) → pos 0 <ℤ z → 0 < unsigned_abs z
 abs_positive (pos n) h = omega (arith, ints)
@@ -77,7 +77,8 @@ fraction_wide_den w n d e h k =
     let y : ℤ = lowest_den n d in
     two_wide_second w x y e (over x y) k ∙ fraction_due w n d h
 
-pub fraction_exact : (w : ℕ) (n d a b : ℤ) → pos 0 <ℤ d → Ok a ≡ within w (lowest_num n d) → Ok b ≡ within w (lowest_den n d) → Ok (over a b) ≡ fraction_in w (over n d)
+pub fraction_exact : (w : ℕ) (n d a b : ℤ) → pos 0 <ℤ d → Ok a ≡ within w (lowest_num n d) → Ok b ≡ within w (lowest_den n d) →
+    Ok (over a b) ≡ fraction_in w (over n d)
 fraction_exact w n d a b h p q =
     let x : ℤ = lowest_num n d in
     let y : ℤ = lowest_den n d in
@@ -120,3 +121,14 @@ value_wide_den w q e h = two_wide_second w q.num (den q) e q h ∙ same_fraction
 pub fraction_wide_below : (v w : ℕ) (q : ℚ) (e : Wide) → v ≤ w → Err e ≡ fraction_in w q → Err (record {}) ≡ fraction_in v q
 unfolding fraction_in
 fraction_wide_below v w q e h k = wide_below v w (q.num ∷ den q ∷ []) q e h k
+
+-- ---- the numbers of a value
+pub value_num : (w : ℕ) (q : ℚ) (n d : ℤ) → over n d ≡ q → IsNarrow w n d → n ≡ q.num
+value_num w q n d e s = sym (over_num n d s.reduced) ∙ ap (λ r. r.num) e
+
+pub value_den : (w : ℕ) (q : ℚ) (n d : ℤ) → over n d ≡ q → IsNarrow w n d → d ≡ den q
+value_den w q n d e s = sym (over_den n d s.reduced) ∙ ap den e
+
+-- numbers that fit a width fit a greater one
+pub narrow_widest : (v w : ℕ) (n d : ℤ) → IsNarrow v n d → v ≤ w → IsNarrow w n d
+narrow_widest v w n d s h = record { reduced = s.reduced; num_fits = fits_widest v w n h s.num_fits; den_fits = fits_widest v w d h s.den_fits }

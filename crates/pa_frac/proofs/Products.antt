@@ -25,26 +25,30 @@ product_due w a b c d s t =
     let r = over_reduced c d t in
     same_product w _ _ _ a b c d l.0 l.1 r.0 r.1 (product_value a b c d s t)
 
-pub product_wide_num : (w : ℕ) (a b c d : ℤ) (e : Wide) → IsNarrow w a b → IsNarrow w c d → Err e ≡ within w (product_num a b c d) → Err (record {}) ≡ product_in w (over a b) (over c d)
+pub product_wide_num : (w : ℕ) (a b c d : ℤ) (e : Wide) → IsNarrow w a b → IsNarrow w c d → Err e ≡ within w (product_num a b c d) →
+    Err (record {}) ≡ product_in w (over a b) (over c d)
 product_wide_num w a b c d e s t h =
     let n : ℤ = product_num a b c d in
     let m : ℤ = product_den a b c d in
     two_wide_first w n m e (over n m) h ∙ product_due w a b c d s.reduced t.reduced
 
-pub product_wide_den : (w : ℕ) (a b c d : ℤ) (e : Wide) → IsNarrow w a b → IsNarrow w c d → Err e ≡ within w (product_den a b c d) → Err (record {}) ≡ product_in w (over a b) (over c d)
+pub product_wide_den : (w : ℕ) (a b c d : ℤ) (e : Wide) → IsNarrow w a b → IsNarrow w c d → Err e ≡ within w (product_den a b c d) →
+    Err (record {}) ≡ product_in w (over a b) (over c d)
 product_wide_den w a b c d e s t h =
     let n : ℤ = product_num a b c d in
     let m : ℤ = product_den a b c d in
     two_wide_second w n m e (over n m) h ∙ product_due w a b c d s.reduced t.reduced
 
-pub product_exact : (w : ℕ) (a b c d n m : ℤ) → IsNarrow w a b → IsNarrow w c d → Ok n ≡ within w (product_num a b c d) → Ok m ≡ within w (product_den a b c d) →
+pub product_exact : (w : ℕ) (a b c d n m : ℤ) → IsNarrow w a b → IsNarrow w c d → Ok n ≡ within w (product_num a b c d) →
+    Ok m ≡ within w (product_den a b c d) →
     Ok (over n m) ≡ product_in w (over a b) (over c d)
 product_exact w a b c d n m s t h k =
     let x : ℤ = product_num a b c d in
     let y : ℤ = product_den a b c d in
     ap₂ (λ n m. Ok (over n m)) (within_ok w n x h).1 (within_ok w m y k).1 ∙ two_exact w x y n m (over x y) h k ∙ product_due w a b c d s.reduced t.reduced
 
-pub product_narrow : (w : ℕ) (a b c d n m : ℤ) → IsNarrow w a b → IsNarrow w c d → Ok n ≡ within w (product_num a b c d) → Ok m ≡ within w (product_den a b c d) →
+pub product_narrow : (w : ℕ) (a b c d n m : ℤ) → IsNarrow w a b → IsNarrow w c d → Ok n ≡ within w (product_num a b c d) →
+    Ok m ≡ within w (product_den a b c d) →
     IsNarrow w n m
 product_narrow w a b c d n m s t h k =
     let x : ℤ = product_num a b c d in

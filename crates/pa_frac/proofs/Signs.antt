@@ -1,7 +1,7 @@
 -- What the tests against 0 tell of a value.
 use Rattle.std.proofs.Common.{◌≡◌, ◌≢◌, Bool, true, false, refl, sym, ap, subst, ◌∙◌}
 use Rattle.std.specs.declared.cmp.Ordering.TheVariants.{Less, Greater}
-use Rattle.std.specs.Ordering.{MatchOrdering, is_eq}
+use Rattle.std.specs.Ordering.{MatchOrdering, int_cmp, int_eq, is_eq}
 use Rattle.std.proofs.lemmas.Bool.Decides.{Decides-int_eq}
 use lib.IntN.{pos}
 use Rattle.pa_math.specs.Rational.{ℚ, whole}
@@ -42,3 +42,13 @@ positive_from_sign q h = subst (λ o. MatchOrdering o (q <ℚ whole (pos 0)) (q 
 
 pub negative_from_sign : (q : ℚ) → sign q ≡ Less → q <ℚ whole (pos 0)
 negative_from_sign q h = subst (λ o. MatchOrdering o (q <ℚ whole (pos 0)) (q ≡ whole (pos 0)) (whole (pos 0) <ℚ q)) h (compare_ranks q (whole (pos 0)))
+
+-- the tests of 0 and 1
+pub zero_test : is_zero (whole (pos 0)) ≡ true
+zero_test = (Decides-int_eq (whole (pos 0)).num (pos 0)).1 (whole_numbers (pos 0)).0
+
+pub one_test : is_zero (whole (pos 1)) ≡ false
+one_test = ap (λ n. int_eq n (pos 0)) (whole_numbers (pos 1)).0
+
+pub one_sign : sign (whole (pos 1)) ≡ Greater
+one_sign = compare_zero (whole (pos 1)) ∙ ap (λ n. int_cmp n (pos 0)) (whole_numbers (pos 1)).0

@@ -44,7 +44,8 @@ same_sum w q r v a b c d n ea eb ec ed eg en ev = cc
 
 -- the sum by the numbers of its terms
 pub sum_due : (w : ℕ) (a b c d : ℤ) → IsReduced a b → IsReduced c d →
-    exact_or_wide w (left_of a b d ∷ right_of b c d ∷ sum_den b d ∷ low_num a b c d ∷ []) (over (low_num a b c d) (low_den a b c d)) ≡ sum_in w (over a b) (over c d)
+    exact_or_wide w (left_of a b d ∷ right_of b c d ∷ sum_den b d ∷ low_num a b c d ∷ []) (over (low_num a b c d) (low_den a b c d)) ≡ sum_in w (over a b)
+    (over c d)
 sum_due w a b c d s t =
     let l = over_reduced a b s in
     let r = over_reduced c d t in
@@ -52,26 +53,36 @@ sum_due w a b c d s t =
     let shared = sum_common_divisor a b c d s t in
     same_sum w (over a b) (over c d) _ a b c d _ l.0 l.1 r.0 r.1 (gcd_ℤ_comm d b)
     ((sum_numbers a b c d s t).0 ∙ ap (int_div (sum_num a b c d)) shared)
-    (sum_value a b c d s.positive t.positive ∙ over_lowest (sum_num a b c d) (sum_den b d) up ∙ ap (λ g. over (int_div (sum_num a b c d) g) (int_div (sum_den b d) g)) shared)
+    (sum_value a b c d s.positive t.positive ∙ over_lowest (sum_num a b c d) (sum_den b d) up
+    ∙ ap (λ g. over (int_div (sum_num a b c d) g) (int_div (sum_den b d) g)) shared)
 
-pub sum_wide_left : (w : ℕ) (a b c d : ℤ) (e : Wide) → IsNarrow w a b → IsNarrow w c d → Err e ≡ within w (left_of a b d) → Err (record {}) ≡ sum_in w (over a b) (over c d)
+pub sum_wide_left : (w : ℕ) (a b c d : ℤ) (e : Wide) → IsNarrow w a b → IsNarrow w c d → Err e ≡ within w (left_of a b d) →
+    Err (record {}) ≡ sum_in w (over a b) (over c d)
 sum_wide_left w a b c d e s t h =
-    four_wide_first w (left_of a b d) (right_of b c d) (sum_den b d) (low_num a b c d) e (over (low_num a b c d) (low_den a b c d)) h ∙ sum_due w a b c d s.reduced t.reduced
+    four_wide_first w (left_of a b d) (right_of b c d) (sum_den b d) (low_num a b c d) e (over (low_num a b c d) (low_den a b c d)) h
+    ∙ sum_due w a b c d s.reduced t.reduced
 
-pub sum_wide_right : (w : ℕ) (a b c d : ℤ) (e : Wide) → IsNarrow w a b → IsNarrow w c d → Err e ≡ within w (right_of b c d) → Err (record {}) ≡ sum_in w (over a b) (over c d)
+pub sum_wide_right : (w : ℕ) (a b c d : ℤ) (e : Wide) → IsNarrow w a b → IsNarrow w c d → Err e ≡ within w (right_of b c d) →
+    Err (record {}) ≡ sum_in w (over a b) (over c d)
 sum_wide_right w a b c d e s t h =
-    four_wide_second w (left_of a b d) (right_of b c d) (sum_den b d) (low_num a b c d) e (over (low_num a b c d) (low_den a b c d)) h ∙ sum_due w a b c d s.reduced t.reduced
+    four_wide_second w (left_of a b d) (right_of b c d) (sum_den b d) (low_num a b c d) e (over (low_num a b c d) (low_den a b c d)) h
+    ∙ sum_due w a b c d s.reduced t.reduced
 
-pub sum_wide_den : (w : ℕ) (a b c d : ℤ) (e : Wide) → IsNarrow w a b → IsNarrow w c d → Err e ≡ within w (sum_den b d) → Err (record {}) ≡ sum_in w (over a b) (over c d)
+pub sum_wide_den : (w : ℕ) (a b c d : ℤ) (e : Wide) → IsNarrow w a b → IsNarrow w c d → Err e ≡ within w (sum_den b d) →
+    Err (record {}) ≡ sum_in w (over a b) (over c d)
 sum_wide_den w a b c d e s t h =
-    four_wide_third w (left_of a b d) (right_of b c d) (sum_den b d) (low_num a b c d) e (over (low_num a b c d) (low_den a b c d)) h ∙ sum_due w a b c d s.reduced t.reduced
+    four_wide_third w (left_of a b d) (right_of b c d) (sum_den b d) (low_num a b c d) e (over (low_num a b c d) (low_den a b c d)) h
+    ∙ sum_due w a b c d s.reduced t.reduced
 
-pub sum_wide_num : (w : ℕ) (a b c d : ℤ) (e : Wide) → IsNarrow w a b → IsNarrow w c d → Err e ≡ within w (low_num a b c d) → Err (record {}) ≡ sum_in w (over a b) (over c d)
+pub sum_wide_num : (w : ℕ) (a b c d : ℤ) (e : Wide) → IsNarrow w a b → IsNarrow w c d → Err e ≡ within w (low_num a b c d) →
+    Err (record {}) ≡ sum_in w (over a b) (over c d)
 sum_wide_num w a b c d e s t h =
-    four_wide_fourth w (left_of a b d) (right_of b c d) (sum_den b d) (low_num a b c d) e (over (low_num a b c d) (low_den a b c d)) h ∙ sum_due w a b c d s.reduced t.reduced
+    four_wide_fourth w (left_of a b d) (right_of b c d) (sum_den b d) (low_num a b c d) e (over (low_num a b c d) (low_den a b c d)) h
+    ∙ sum_due w a b c d s.reduced t.reduced
 
 pub sum_exact : (w : ℕ) (a b c d k l m n e : ℤ) → IsNarrow w a b → IsNarrow w c d →
-    Ok k ≡ within w (left_of a b d) → Ok l ≡ within w (right_of b c d) → Ok m ≡ within w (sum_den b d) → Ok n ≡ within w (low_num a b c d) → e ≡ low_den a b c d →
+    Ok k ≡ within w (left_of a b d) → Ok l ≡ within w (right_of b c d) → Ok m ≡ within w (sum_den b d) → Ok n ≡ within w (low_num a b c d) →
+    e ≡ low_den a b c d →
     Ok (over n e) ≡ sum_in w (over a b) (over c d)
 sum_exact w a b c d k l m n e s t hk hl hm hn he =
     ap₂ (λ x y. Ok (over x y)) (within_ok w n (low_num a b c d) hn).1 he
@@ -79,7 +90,8 @@ sum_exact w a b c d k l m n e s t hk hl hm hn he =
     ∙ sum_due w a b c d s.reduced t.reduced
 
 -- the sum's numbers are in lowest terms, and its denominator is a divisor of the least common one
-pub sum_narrow : (w : ℕ) (a b c d m n e : ℤ) → IsNarrow w a b → IsNarrow w c d → Ok m ≡ within w (sum_den b d) → Ok n ≡ within w (low_num a b c d) → e ≡ low_den a b c d →
+pub sum_narrow : (w : ℕ) (a b c d m n e : ℤ) → IsNarrow w a b → IsNarrow w c d → Ok m ≡ within w (sum_den b d) → Ok n ≡ within w (low_num a b c d) →
+    e ≡ low_den a b c d →
     IsNarrow w n e
 sum_narrow w a b c d m n e s t hm hn he =
     let up : pos 0 <ℤ sum_den b d = sum_den_positive b d s.reduced.positive t.reduced.positive in
@@ -87,11 +99,13 @@ sum_narrow w a b c d m n e s t hm hn he =
     let low : IsReduced (low_num a b c d) (low_den a b c d) =
     subst₂ IsReduced (ap (int_div (sum_num a b c d)) shared) (ap (int_div (sum_den b d)) shared) (reduces (sum_num a b c d) (sum_den b d) up).reduced in
     let k = within_ok w n (low_num a b c d) hn in
-    let back : low_den a b c d *ℤ sum_shared a b c d ≡ sum_den b d = sym (ap (λ g. int_div (sum_den b d) g *ℤ g) shared) ∙ gcd_ℤ_right_quotient (sum_num a b c d) (sum_den b d) in
+    let back : low_den a b c d *ℤ sum_shared a b c d ≡ sum_den b d = sym (ap (λ g. int_div (sum_den b d) g *ℤ g) shared)
+    ∙ gcd_ℤ_right_quotient (sum_num a b c d) (sum_den b d) in
     rw (k.1, he) (record {
       reduced = low;
       num_fits = fits_from_passes w (low_num a b c d) k.0;
-      den_fits = factor_fits w (low_den a b c d) (sum_shared a b c d) (sum_den b d) low.positive up back (fits_from_passes w (sum_den b d) (within_ok w m (sum_den b d) hm).0);
+      den_fits = factor_fits w (low_den a b c d) (sum_shared a b c d) (sum_den b d) low.positive up back
+          (fits_from_passes w (sum_den b d) (within_ok w m (sum_den b d) hm).0);
     })
 
 -- ---- the same by the numbers that were formed: the two numerators and the denominator, each of which fits, and the sum of the numerators
@@ -101,14 +115,16 @@ record Formed (w : ℕ) (a b c d k l m t : ℤ) : Type 0 where
   den : m ≡ sum_den b d
   num : t ≡ sum_num a b c d
 
-formed : (w : ℕ) (a b c d k l m t : ℤ) → Ok k ≡ within w (left_of a b d) → Ok l ≡ within w (right_of b c d) → Ok m ≡ within w (sum_den b d) → t ≡ k +ℤ l → Formed w a b c d k l m t
+formed : (w : ℕ) (a b c d k l m t : ℤ) → Ok k ≡ within w (left_of a b d) → Ok l ≡ within w (right_of b c d) → Ok m ≡ within w (sum_den b d) → t ≡ k +ℤ l →
+    Formed w a b c d k l m t
 formed w a b c d k l m t hk hl hm ht =
     let left = (within_ok w k (left_of a b d) hk).1 in
     let right = (within_ok w l (right_of b c d) hl).1 in
     record { left = left; right = right; den = (within_ok w m (sum_den b d) hm).1; num = ht ∙ ap₂ ◌+ℤ◌ left right }
 
 pub formed_wide : (w : ℕ) (a b c d k l m t : ℤ) (e : Wide) → IsNarrow w a b → IsNarrow w c d →
-    Ok k ≡ within w (left_of a b d) → Ok l ≡ within w (right_of b c d) → Ok m ≡ within w (sum_den b d) → t ≡ k +ℤ l → Err e ≡ within w (int_div t (gcd_ℤ t (gcd_ℤ b d))) →
+    Ok k ≡ within w (left_of a b d) → Ok l ≡ within w (right_of b c d) → Ok m ≡ within w (sum_den b d) → t ≡ k +ℤ l →
+    Err e ≡ within w (int_div t (gcd_ℤ t (gcd_ℤ b d))) →
     Err (record {}) ≡ sum_in w (over a b) (over c d)
 formed_wide w a b c d k l m t e p q hk hl hm ht h =
     let f = formed w a b c d k l m t hk hl hm ht in
@@ -161,26 +177,32 @@ alike a b c h =
     times_one : (z : ℤ) → z *ℤ pos 1 ≡ z
     times_one z = omega (arith, ints)
 
-pub alike_wide : (w : ℕ) (a b c d : ℤ) (e : Wide) → b ≡ d → IsNarrow w a b → IsNarrow w c d → Err e ≡ within w (lowest_num (a +ℤ c) b) → Err (record {}) ≡ sum_in w (over a b) (over c d)
+pub alike_wide : (w : ℕ) (a b c d : ℤ) (e : Wide) → b ≡ d → IsNarrow w a b → IsNarrow w c d → Err e ≡ within w (lowest_num (a +ℤ c) b) →
+    Err (record {}) ≡ sum_in w (over a b) (over c d)
 alike_wide w a b c d e same s t h = subst (λ z. Err (record {}) ≡ sum_in w (over a b) (over c z)) same (one w a b c e s (subst (IsNarrow w c) (sym same) t) h)
   where
-    one : (w : ℕ) (a b c : ℤ) (e : Wide) → IsNarrow w a b → IsNarrow w c b → Err e ≡ within w (lowest_num (a +ℤ c) b) → Err (record {}) ≡ sum_in w (over a b) (over c b)
+    one : (w : ℕ) (a b c : ℤ) (e : Wide) → IsNarrow w a b → IsNarrow w c b → Err e ≡ within w (lowest_num (a +ℤ c) b) →
+        Err (record {}) ≡ sum_in w (over a b) (over c b)
     one w a b c e s t h = sum_wide_num w a b c b e s t (h ∙ ap (within w) (sym (alike a b c s.reduced.positive).num))
 
 pub alike_exact : (w : ℕ) (a b c d n m : ℤ) → b ≡ d → IsNarrow w a b → IsNarrow w c d → Ok n ≡ within w (lowest_num (a +ℤ c) b) → m ≡ lowest_den (a +ℤ c) b →
     Ok (over n m) ≡ sum_in w (over a b) (over c d)
-alike_exact w a b c d n m same s t h l = subst (λ z. Ok (over n m) ≡ sum_in w (over a b) (over c z)) same (one w a b c n m s (subst (IsNarrow w c) (sym same) t) h l)
+alike_exact w a b c d n m same s t h l =
+    subst (λ z. Ok (over n m) ≡ sum_in w (over a b) (over c z)) same (one w a b c n m s (subst (IsNarrow w c) (sym same) t) h l)
   where
-    one : (w : ℕ) (a b c n m : ℤ) → IsNarrow w a b → IsNarrow w c b → Ok n ≡ within w (lowest_num (a +ℤ c) b) → m ≡ lowest_den (a +ℤ c) b → Ok (over n m) ≡ sum_in w (over a b) (over c b)
+    one : (w : ℕ) (a b c n m : ℤ) → IsNarrow w a b → IsNarrow w c b → Ok n ≡ within w (lowest_num (a +ℤ c) b) → m ≡ lowest_den (a +ℤ c) b →
+        Ok (over n m) ≡ sum_in w (over a b) (over c b)
     one w a b c n m s t h l =
         let k = alike a b c s.reduced.positive in
         sum_exact w a b c b a c b n m s t (within_fits w a s.num_fits ∙ ap (within w) (sym k.left)) (within_fits w c t.num_fits ∙ ap (within w) (sym k.right))
         (within_fits w b s.den_fits ∙ ap (within w) (sym k.den)) (h ∙ ap (within w) (sym k.num)) (l ∙ sym k.low)
 
-pub alike_narrow : (w : ℕ) (a b c d n m : ℤ) → b ≡ d → IsNarrow w a b → IsNarrow w c d → Ok n ≡ within w (lowest_num (a +ℤ c) b) → m ≡ lowest_den (a +ℤ c) b → IsNarrow w n m
+pub alike_narrow : (w : ℕ) (a b c d n m : ℤ) → b ≡ d → IsNarrow w a b → IsNarrow w c d → Ok n ≡ within w (lowest_num (a +ℤ c) b) →
+    m ≡ lowest_den (a +ℤ c) b → IsNarrow w n m
 alike_narrow w a b c d n m same s t h l =
     let k = alike a b c s.reduced.positive in
-    sum_narrow w a b c b b n m s (subst (IsNarrow w c) (sym same) t) (within_fits w b s.den_fits ∙ ap (within w) (sym k.den)) (h ∙ ap (within w) (sym k.num)) (l ∙ sym k.low)
+    sum_narrow w a b c b b n m s (subst (IsNarrow w c) (sym same) t) (within_fits w b s.den_fits ∙ ap (within w) (sym k.den))
+    (h ∙ ap (within w) (sym k.num)) (l ∙ sym k.low)
 
 -- the numerators over one denominator fit, and the lesser of them is the numerator of the lesser fraction
 pub alike_numerators : (w : ℕ) (a b c : ℤ) → IsNarrow w a b → IsNarrow w c b → (Ok a ≡ within w (left_of a b b)) × (Ok c ≡ within w (right_of b c b))
@@ -201,10 +223,12 @@ neg_numbers q =
     (ap (λ r. r.num) is ∙ n.0, ap den is ∙ n.1)
 
 -- the named numbers of a difference are those of the sum with the negation, but for a sign
-four_wide : {A : Type 0} (w : ℕ) (x y z t y' : ℤ) (v : A) → passes w y' ≡ passes w y → exact_or_wide w (x ∷ y' ∷ z ∷ t ∷ []) v ≡ exact_or_wide w (x ∷ y ∷ z ∷ t ∷ []) v
+four_wide : {A : Type 0} (w : ℕ) (x y z t y' : ℤ) (v : A) → passes w y' ≡ passes w y →
+    exact_or_wide w (x ∷ y' ∷ z ∷ t ∷ []) v ≡ exact_or_wide w (x ∷ y ∷ z ∷ t ∷ []) v
 four_wide w x y z t y' v h = ap (λ b. if passes w x || (b || (passes w z || (passes w t || false))) then Err (record {}) else Ok v) h
 
-same_difference : (w : ℕ) (q r s : ℚ) → s.num ≡ neg_ℤ r.num → den s ≡ den r → exact_or_wide w (scaled_num q r ∷ scaled_num r q ∷ common_den q r ∷ (q +ℚ s).num ∷ []) (q +ℚ s) ≡ sum_in w q s
+same_difference : (w : ℕ) (q r s : ℚ) → s.num ≡ neg_ℤ r.num → den s ≡ den r →
+    exact_or_wide w (scaled_num q r ∷ scaled_num r q ∷ common_den q r ∷ (q +ℚ s).num ∷ []) (q +ℚ s) ≡ sum_in w q s
 unfolding sum_in
 same_difference w q r s en ed =
     let left : scaled_num q r ≡ scaled_num q s = ap (λ k. q.num *ℤ int_div k (gcd_ℤ (den q) k)) (sym ed) in

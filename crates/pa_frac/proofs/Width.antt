@@ -1,5 +1,30 @@
 -- What the width rule says of one or several named numbers.
-use Rattle.std.proofs.Common.{◌≡◌, ◌≤◌, ◌⊎◌, inl, inr, lit≤, ℕ, Bool, true, false, List, [], ◌∷◌, Result, Ok, Err, refl, sym, ap, subst, ◌∙◌, cond, ◌^◌, arith}
+use Rattle.std.proofs.Common.{
+  ◌≡◌,
+  ◌≤◌,
+  ◌⊎◌,
+  inl,
+  inr,
+  lit≤,
+  ℕ,
+  Bool,
+  true,
+  false,
+  List,
+  [],
+  ◌∷◌,
+  Result,
+  Ok,
+  Err,
+  refl,
+  sym,
+  ap,
+  subst,
+  ◌∙◌,
+  cond,
+  ◌^◌,
+  arith,
+}
 use Rattle.std.specs.Prelude.{◌||◌, IsErr}
 use Rattle.std.specs.List.{list_any}
 use Rattle.std.proofs.lemmas.Bool.Decides.{nat_tests}
@@ -46,6 +71,15 @@ fits_from_answer w x z h =
     let t = within_ok w x z h in
     subst (Fits w) (sym t.1) (fits_from_passes w z t.0)
 
+-- a number that fits a width fits a greater one
+pub fits_widest : (v w : ℕ) (z : ℤ) → v ≤ w → Fits v z → Fits w z
+fits_widest v w z h k =
+    let powers : 2 ^ v ≤ 2 ^ w = pow-le-pow_right (lit≤ tt) h in
+    omega arith
+
+pub answer_widest : (v w : ℕ) (x z : ℤ) → v ≤ w → Ok x ≡ within v z → Fits w x
+answer_widest v w x z h k = fits_widest v w x h (fits_from_answer v x z k)
+
 -- a number that fits is its own answer
 pub within_fits : (w : ℕ) (z : ℤ) → Fits w z → Ok z ≡ within w z
 within_fits w z h = sym (ap (λ b. cond (b || false) (Err (record {})) (Ok z)) (passes_from_fits w z h))
@@ -59,13 +93,15 @@ pub wide_first : {A : Type 0} (w : ℕ) (z : ℤ) (named : List ℤ) (x : A) →
 wide_first w z named x h = sym (ap (λ b. cond (b || list_any (passes w) named) (Err (record {})) (Ok x)) h)
 
 -- where a later one passes, too
-pub wide_later : {A : Type 0} (w : ℕ) (z : ℤ) (named : List ℤ) (x : A) → Err (record {}) ≡ exact_or_wide w named x → Err (record {}) ≡ exact_or_wide w (z ∷ named) x
+pub wide_later : {A : Type 0} (w : ℕ) (z : ℤ) (named : List ℤ) (x : A) → Err (record {}) ≡ exact_or_wide w named x →
+    Err (record {}) ≡ exact_or_wide w (z ∷ named) x
 wide_later w z named x h =
     let t = wide_cond (list_any (passes w) named) x (record {}) h in
     sym (ap (λ b. cond (passes w z || b) (Err (record {})) (Ok x)) t ∙ ap (λ b. cond b (Err (record {})) (Ok x)) (or_true (passes w z)))
 
 -- where no named number passes, the answer is the value
-pub exact_first : {A : Type 0} (w : ℕ) (z : ℤ) (named : List ℤ) (x : A) → passes w z ≡ false → Ok x ≡ exact_or_wide w named x → Ok x ≡ exact_or_wide w (z ∷ named) x
+pub exact_first : {A : Type 0} (w : ℕ) (z : ℤ) (named : List ℤ) (x : A) → passes w z ≡ false → Ok x ≡ exact_or_wide w named x →
+    Ok x ≡ exact_or_wide w (z ∷ named) x
 exact_first w z named x h k = k ∙ sym (ap (λ b. cond (b || list_any (passes w) named) (Err (record {})) (Ok x)) h)
 
 -- an answer that is not `Wide` is the value
@@ -86,12 +122,24 @@ any_below : (v w : ℕ) → v ≤ w → (named : List ℤ) → list_any (passes 
 any_below v w h [] k = cc
 any_below v w h (z ∷ named) k = by_cases (or_cases (passes w z) (list_any (passes w) named) k) (any_below v w h named)
   where
-    by_cases : (passes w z ≡ true) ⊎ (list_any (passes w) named ≡ true) → (list_any (passes w) named ≡ true → list_any (passes v) named ≡ true) → list_any (passes v) (z ∷ named) ≡ true
+    by_cases : (passes w z ≡ true) ⊎ (list_any (passes w) named ≡ true) → (list_any (passes w) named ≡ true → list_any (passes v) named ≡ true) →
+        list_any (passes v) (z ∷ named) ≡ true
     by_cases (inl p) rest = ap (λ b. b || list_any (passes v) named) (passes_below v w z h p)
     by_cases (inr p) rest = ap (λ b. passes v z || b) (rest p) ∙ or_true (passes v z)
 
-pub wide_below : {A : Type 0} (v w : ℕ) (named : List ℤ) (x : A) (e : Wide) → v ≤ w → Err e ≡ exact_or_wide w named x → Err (record {}) ≡ exact_or_wide v named x
+pub wide_below : {A : Type 0} (v w : ℕ) (named : List ℤ) (x : A) (e : Wide) → v ≤ w → Err e ≡ exact_or_wide w named x →
+    Err (record {}) ≡ exact_or_wide v named x
 wide_below v w named x e h k = sym (ap (λ b. cond b (Err (record {})) (Ok x)) (any_below v w h named (wide_cond (list_any (passes w) named) x e k)))
+
+-- ---- a product that was tested against a greater width first
+pub product_wide : (v w : ℕ) (z : ℤ) (e : Wide) → Err e ≡ within w z → v ≤ w → Err (record {}) ≡ within v z
+product_wide v w z e h k = wide_below v w (z ∷ []) z e k h
+
+pub product_below : (v w : ℕ) (r : Result ℤ Wide) (x z : ℤ) → Ok x ≡ within w z → r ≡ within v x → r ≡ within v z
+product_below v w r x z h k = k ∙ ap (within v) (within_ok w x z h).1
+
+pub product_most : (v w : ℕ) (x z : ℤ) → v ≤ w → w ≤ v → Ok x ≡ within w z → Ok x ≡ within v z
+product_most v w x z h k e = let same : w ≡ v = omega arith in subst (λ u. Ok x ≡ within u z) same e
 
 -- ---- two named numbers, which are checked one after the other
 pub two_exact : {A : Type 0} (w : ℕ) (x y n m : ℤ) (v : A) → Ok n ≡ within w x → Ok m ≡ within w y → Ok v ≡ exact_or_wide w (x ∷ y ∷ []) v

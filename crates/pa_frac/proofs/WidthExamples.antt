@@ -13,7 +13,8 @@ unfolding sum_in over lowest gcd_of ◌+ℚ◌
 sum_of_64_bits = refl
 
 -- 1 / 2^62 + 1 / (2^62 - 1) is below
-sum_of_62_bits : sum_in 126 (over (pos 1) (pos 4611686018427387904)) (over (pos 1) (pos 4611686018427387903)) ≡ Ok (over (pos 9223372036854775807) (pos 21267647932558653961849226946058125312))
+sum_of_62_bits : sum_in 126 (over (pos 1) (pos 4611686018427387904)) (over (pos 1) (pos 4611686018427387903)) ≡ Ok
+    (over (pos 9223372036854775807) (pos 21267647932558653961849226946058125312))
 unfolding sum_in over lowest gcd_of ◌+ℚ◌
 sum_of_62_bits = refl
 

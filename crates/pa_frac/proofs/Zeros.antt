@@ -30,14 +30,21 @@ small_fits w z h k =
 pub small_whole : (w : ℕ) (n : ℤ) → 2 ≤ w → unsigned_abs n < 4 → Ok (whole n) ≡ fraction_in w (whole n)
 small_whole w n h k =
     let numbers = whole_numbers n in
-    value_exact w (whole n) n (pos 1) (within_fits w n (small_fits w n h k) ∙ ap (within w) (sym numbers.0)) (within_fits w (pos 1) (small_fits w (pos 1) h (lit≤ tt)) ∙ ap (within w) (sym numbers.1))
+    value_exact w (whole n) n (pos 1) (within_fits w n (small_fits w n h k) ∙ ap (within w) (sym numbers.0))
+    (within_fits w (pos 1) (small_fits w (pos 1) h (lit≤ tt)) ∙ ap (within w) (sym numbers.1))
 
 -- what a type of fractions promises of a value, as the fact on its numbers
 pub value_narrow_numbers : (w : ℕ) (q : ℚ) → Fits w q.num → Fits w (den q) → IsNarrow w q.num (den q)
 value_narrow_numbers w q h k = record { reduced = reduced_form q; num_fits = h; den_fits = k }
 
-zero_narrow : (w : ℕ) → 2 ≤ w → IsNarrow w (pos 0) (pos 1)
-zero_narrow w h = record { reduced = reduced_whole (pos 0); num_fits = small_fits w (pos 0) h (lit≤ tt); den_fits = small_fits w (pos 1) h (lit≤ tt) }
+pub small_narrow : (w : ℕ) (n : ℤ) → 2 ≤ w → unsigned_abs n < 4 → IsNarrow w n (pos 1)
+small_narrow w n h k = record { reduced = reduced_whole n; num_fits = small_fits w n h k; den_fits = small_fits w (pos 1) h (lit≤ tt) }
+
+pub zero_narrow : (w : ℕ) → 2 ≤ w → IsNarrow w (pos 0) (pos 1)
+zero_narrow w h = small_narrow w (pos 0) h (lit≤ tt)
+
+pub one_narrow : (w : ℕ) → 2 ≤ w → IsNarrow w (pos 1) (pos 1)
+one_narrow w h = small_narrow w (pos 1) h (lit≤ tt)
 
 zero_times : (z : ℤ) → z *ℤ pos 0 ≡ pos 0
 zero_times z = omega (arith, ints)
@@ -69,22 +76,26 @@ pub product_zero : (w : ℕ) (q : ℚ) → 2 ≤ w → Fits w q.num → Fits w (
 product_zero w q h kn kd =
     let s = value_narrow_numbers w q kn kd in
     let zero : pos 0 ≡ product_num q.num (den q) (pos 0) (pos 1) =
-    sym (ap (λ z. int_div q.num (gcd_ℤ q.num (pos 1)) *ℤ z) (zero_divided (gcd_ℤ (pos 0) (den q)) (shared_positive (pos 0) (den q) s.reduced.positive)) ∙ zero_times (int_div q.num (gcd_ℤ q.num (pos 1)))) in
+    sym (ap (λ z. int_div q.num (gcd_ℤ q.num (pos 1)) *ℤ z) (zero_divided (gcd_ℤ (pos 0) (den q)) (shared_positive (pos 0) (den q) s.reduced.positive))
+    ∙ zero_times (int_div q.num (gcd_ℤ q.num (pos 1)))) in
     let one : pos 1 ≡ product_den q.num (den q) (pos 0) (pos 1) =
     sym (ap₂ ◌*ℤ◌ (shared_with_zero (den q) s.reduced.positive) (over_one q.num) ∙ times_one (pos 1)) in
     product_exact w q.num (den q) (pos 0) (pos 1) (pos 0) (pos 1) s (zero_narrow w h)
-    (within_fits w (pos 0) (small_fits w (pos 0) h (lit≤ tt)) ∙ ap (within w) zero) (within_fits w (pos 1) (small_fits w (pos 1) h (lit≤ tt)) ∙ ap (within w) one)
+    (within_fits w (pos 0) (small_fits w (pos 0) h (lit≤ tt)) ∙ ap (within w) zero)
+    (within_fits w (pos 1) (small_fits w (pos 1) h (lit≤ tt)) ∙ ap (within w) one)
     ∙ ap (λ r. product_in w r (whole (pos 0))) (over_parts q)
 
 pub product_zero_left : (w : ℕ) (q : ℚ) → 2 ≤ w → Fits w q.num → Fits w (den q) → Ok (whole (pos 0)) ≡ product_in w (whole (pos 0)) q
 product_zero_left w q h kn kd =
     let s = value_narrow_numbers w q kn kd in
     let zero : pos 0 ≡ product_num (pos 0) (pos 1) q.num (den q) =
-    sym (ap (λ z. z *ℤ int_div q.num (gcd_ℤ q.num (pos 1))) (zero_divided (gcd_ℤ (pos 0) (den q)) (shared_positive (pos 0) (den q) s.reduced.positive)) ∙ times_zero (int_div q.num (gcd_ℤ q.num (pos 1)))) in
+    sym (ap (λ z. z *ℤ int_div q.num (gcd_ℤ q.num (pos 1))) (zero_divided (gcd_ℤ (pos 0) (den q)) (shared_positive (pos 0) (den q) s.reduced.positive))
+    ∙ times_zero (int_div q.num (gcd_ℤ q.num (pos 1)))) in
     let one : pos 1 ≡ product_den (pos 0) (pos 1) q.num (den q) =
     sym (ap₂ ◌*ℤ◌ (over_one q.num) (shared_with_zero (den q) s.reduced.positive) ∙ times_one (pos 1)) in
     product_exact w (pos 0) (pos 1) q.num (den q) (pos 0) (pos 1) (zero_narrow w h) s
-    (within_fits w (pos 0) (small_fits w (pos 0) h (lit≤ tt)) ∙ ap (within w) zero) (within_fits w (pos 1) (small_fits w (pos 1) h (lit≤ tt)) ∙ ap (within w) one)
+    (within_fits w (pos 0) (small_fits w (pos 0) h (lit≤ tt)) ∙ ap (within w) zero)
+    (within_fits w (pos 1) (small_fits w (pos 1) h (lit≤ tt)) ∙ ap (within w) one)
     ∙ ap (λ r. product_in w (whole (pos 0)) r) (over_parts q)
   where
     times_zero : (z : ℤ) → pos 0 *ℤ z ≡ pos 0
@@ -100,7 +111,8 @@ sum_zero w q h kn kd =
     let right : pos 0 ≡ right_of b (pos 0) (pos 1) = sym (times_zero (int_div b (gcd_ℤ b (pos 1)))) in
     let low : b ≡ sum_den b (pos 1) = sym (ap (λ z. b *ℤ z) (over_one b) ∙ times_one b) in
     let up : a ≡ sum_num a b (pos 0) (pos 1) = plus_zero a ∙ ap₂ ◌+ℤ◌ left right in
-    let shared : gcd_ℤ (sum_num a b (pos 0) (pos 1)) (gcd_ℤ b (pos 1)) ≡ pos 1 = ap (gcd_ℤ (sum_num a b (pos 0) (pos 1))) (shared_with_one b) ∙ shared_with_one (sum_num a b (pos 0) (pos 1)) in
+    let shared : gcd_ℤ (sum_num a b (pos 0) (pos 1)) (gcd_ℤ b (pos 1)) ≡ pos 1 = ap (gcd_ℤ (sum_num a b (pos 0) (pos 1))) (shared_with_one b)
+    ∙ shared_with_one (sum_num a b (pos 0) (pos 1)) in
     let num : a ≡ low_num a b (pos 0) (pos 1) = sym (ap₂ int_div (sym up) shared ∙ quotient_by_one a) in
     let den_is : b ≡ low_den a b (pos 0) (pos 1) = sym (ap₂ int_div (sym low) shared ∙ quotient_by_one b) in
     ap Ok (sym (over_parts q))
@@ -117,4 +129,5 @@ sum_zero w q h kn kd =
 
 -- a difference with 0 is the first value
 pub difference_zero : (w : ℕ) (q : ℚ) → 2 ≤ w → Fits w q.num → Fits w (den q) → Ok q ≡ difference_in w q (whole (pos 0))
-difference_zero w q h kn kd = sum_zero w q h kn kd ∙ ap (sum_in w q) (sym (over_neg (pos 0) (pos 1) (omega (arith, ints)))) ∙ difference_is w q (whole (pos 0))
+difference_zero w q h kn kd = sum_zero w q h kn kd ∙ ap (sum_in w q) (sym (over_neg (pos 0) (pos 1) (omega (arith, ints))))
+    ∙ difference_is w q (whole (pos 0))

@@ -1,7 +1,9 @@
 // What each type of fractions promises.
+ghost use Rattle.pa_frac.specs.Narrow.{IsNarrow};
 ghost use Rattle.pa_frac.specs.Operations.{fraction_in, sum_in, difference_in, product_in, quotient_in, comparison_in};
 ghost use Rattle.pa_frac.specs.Operations.{is_zero as is_zero_value, sign as sign_of};
 ghost use Rattle.pa_frac.specs.Width.{Fits, valued};
+ghost use Rattle.pa_frac.specs.declared.whole.TheConstants.{MOST_BITS};
 ghost use Rattle.pa_math.proofs.RationalOrders.{compare_total, compare_sum, compare_product};
 ghost use Rattle.pa_math.proofs.Rationals.{reduced_form};
 ghost use Rattle.pa_math.specs.Divisors.{IsReduced};
@@ -10,7 +12,10 @@ ghost use Rattle.pa_math.specs.RationalOrder.{compare_ℚ, ◌<ℚ◌};
 ghost use Rattle.std.specs.Cmp.{IsTotalOrder};
 ghost use Rattle.std.specs.Prelude.{◌≡◌, ◌≤◌, ◌<ℤ◌, ℕ, pos, false};
 
-use crate::Wide;
+use crate::arithmetic::{
+    comparison_of, fraction_of, negation_of, product_of, reciprocal_of, sum_of,
+};
+use crate::{LowestTerms, MOST_BITS, Wide};
 use std::cmp::Ordering;
 
 /// Fractions of whole numbers, in lowest terms with a denominator of at least 1, whose two numbers
@@ -28,15 +33,11 @@ use std::cmp::Ordering;
 /// be `over num den`. Owed are:
 ///
 /// - `WIDTH`, from 2 to 126, and the proofs `least_width` and `greatest_width` of these bounds;
-/// - the methods, each under the clause that stands here. The named numbers may be formed and
-///   tested in any order, and a number may be left out where it can't pass;
+/// - `from_lowest` and `lowest`, which make the value of its numbers and give them back. The
+///   operations stand on these two, and a type may write one anew under its clause;
 /// - `num_fits` and `den_fits`, which are the lemmas of these names in `specs/Narrow.antt`.
 ///
-/// The other laws have proofs already. For the methods, `proofs/` has a lemma for each way in
-/// which a body returns, at any width, over the plain numbers: `Lowest` for `from_parts`, `Sums`,
-/// `Products`, `Comparisons` and `Quotients`. Where each number that is formed is tested by a
-/// function that ensures `result ≡ within WIDTH n`, an answer cites one of them. `src/small20.rt`
-/// with `proofs/small20/` is such a type, of 20 bits over `i32`.
+/// The other laws have proofs already. `src/narrow62.rt` is such a type.
 pub trait Fraction: Copy {
     ghost WIDTH: { ℕ };
 
@@ -46,33 +47,76 @@ pub trait Fraction: Copy {
     // the fraction that a value stands for
     ghost value: { Self → ℚ };
 
+    /// The fraction of two numbers in lowest terms. The condition is that they are, with a
+    /// denominator of at least 1, and that neither passes the width.
+    fn from_lowest(terms: LowestTerms) -> Self
+        requires { IsNarrow WIDTH terms.num terms.den }
+        ensures { value result ≡ over terms.num terms.den };
+
+    /// The two numbers in lowest terms, with a denominator of at least 1.
+    fn lowest(self) -> LowestTerms
+        ensures value { over result.num result.den ≡ value self }
+        ensures narrow { IsNarrow WIDTH result.num result.den };
+
+    /// The fraction 0.
+    #[inline(always)]
+    fn zero() -> Self
+        ensures { value result ≡ whole (pos 0) }
+    {
+        Self::from_lowest(LowestTerms { num: 0, den: 1 })
+    }
+
+    /// The fraction 1.
+    #[inline(always)]
+    fn one() -> Self
+        ensures { value result ≡ whole (pos 1) }
+    {
+        Self::from_lowest(LowestTerms { num: 1, den: 1 })
+    }
+
     /// The fraction `num / den` in lowest terms. The condition is that `den` is at least 1.
     ///
     /// `Wide` exactly where the numerator or the denominator in lowest terms reaches `2^WIDTH`.
     fn from_parts(num: i128, den: i128) -> Result<Self, Wide>
         requires { pos 0 <ℤ den }
-        ensures { valued value result ≡ fraction_in WIDTH (over num den) };
+        ensures { valued value result ≡ fraction_in WIDTH (over num den) }
+    {
+        let lowest = fraction_of(Self::WIDTH, num, den)?;
+        Ok(Self::from_lowest(lowest))
+    }
 
     /// The sum.
     ///
     /// `Wide` exactly where, with `g = gcd(b, d)`, one of `a (d / g)`, `c (b / g)`, `b (d / g)` and
     /// the numerator of the sum in lowest terms reaches `2^WIDTH`.
     fn add(self, other: Self) -> Result<Self, Wide>
-        ensures { valued value result ≡ sum_in WIDTH (value self) (value other) };
+        ensures { valued value result ≡ sum_in WIDTH (value self) (value other) }
+    {
+        let sum = sum_of(Self::WIDTH, self.lowest(), other.lowest())?;
+        Ok(Self::from_lowest(sum))
+    }
 
     /// The difference.
     ///
     /// `Wide` exactly where, with `g = gcd(b, d)`, one of `a (d / g)`, `c (b / g)`, `b (d / g)` and
     /// the numerator of the difference in lowest terms reaches `2^WIDTH`.
+    #[tactic(auto, using(crate::proofs::Sums::difference_is))]
     fn sub(self, other: Self) -> Result<Self, Wide>
-        ensures { valued value result ≡ difference_in WIDTH (value self) (value other) };
+        ensures { valued value result ≡ difference_in WIDTH (value self) (value other) }
+    {
+        self.add(other.neg())
+    }
 
     /// The product.
     ///
     /// `Wide` exactly where, with `g = gcd(a, d)` and `h = gcd(c, b)`, one of `(a / g) (c / h)` and
     /// `(b / h) (d / g)` reaches `2^WIDTH`.
     fn mul(self, other: Self) -> Result<Self, Wide>
-        ensures { valued value result ≡ product_in WIDTH (value self) (value other) };
+        ensures { valued value result ≡ product_in WIDTH (value self) (value other) }
+    {
+        let product = product_of(Self::WIDTH, self.lowest(), other.lowest())?;
+        Ok(Self::from_lowest(product))
+    }
 
     /// The quotient. The condition is that `other` is not 0.
     ///
@@ -80,38 +124,69 @@ pub trait Fraction: Copy {
     /// where that product is.
     fn div(self, other: Self) -> Result<Self, Wide>
         requires { is_zero_value (value other) ≡ false }
-        ensures { valued value result ≡ quotient_in WIDTH (value self) (value other) };
+        ensures { valued value result ≡ quotient_in WIDTH (value self) (value other) }
+    {
+        let turned = reciprocal_of(other.lowest());
+        let quotient = product_of(Self::WIDTH, self.lowest(), turned)?;
+        Ok(Self::from_lowest(quotient))
+    }
 
     /// Whether this fraction is below the other, equal or above.
     ///
     /// `Wide` exactly where, with `g = gcd(b, d)`, one of `a (d / g)` and `c (b / g)` reaches
     /// `2^WIDTH`.
     fn compare(self, other: Self) -> Result<Ordering, Wide>
-        ensures { result ≡ comparison_in WIDTH (value self) (value other) };
+        ensures { result ≡ comparison_in WIDTH (value self) (value other) }
+    {
+        comparison_of(Self::WIDTH, self.lowest(), other.lowest())
+    }
 
     /// The negation.
+    #[inline(always)]
     fn neg(self) -> Self
-        ensures { value result ≡ neg_ℚ (value self) };
+        ensures { value result ≡ neg_ℚ (value self) }
+    {
+        Self::from_lowest(negation_of(self.lowest()))
+    }
 
     /// The numerator in lowest terms.
+    #[inline(always)]
+    #[tactic(auto, using(crate::proofs::Lowest::value_num))]
     fn num(self) -> i128
-        ensures { result ≡ (value self).num };
+        ensures { result ≡ (value self).num }
+    {
+        self.lowest().num
+    }
 
     /// The denominator in lowest terms, which is at least 1.
+    #[inline(always)]
+    #[tactic(auto, using(crate::proofs::Lowest::value_den))]
     fn den(self) -> i128
-        ensures { result ≡ den_of (value self) };
+        ensures { result ≡ den_of (value self) }
+    {
+        self.lowest().den
+    }
 
     /// Whether the fraction is 0.
+    #[inline(always)]
     fn is_zero(self) -> bool
-        ensures { result ≡ is_zero_value (value self) };
+        ensures { result ≡ is_zero_value (value self) }
+    {
+        self.num() == 0
+    }
 
     /// Whether the fraction is below 0, 0 or above.
+    #[inline(always)]
+    #[tactic(auto, using(pa_math::proofs::ReducedOperations::compare_zero))]
     fn sign(self) -> Ordering
-        ensures { result ≡ sign_of (value self) };
+        ensures { result ≡ sign_of (value self) }
+    {
+        self.num().cmp(&0)
+    }
 
     ghost least_width: { 2 ≤ WIDTH };
 
-    ghost greatest_width: { WIDTH ≤ 126 };
+    ghost greatest_width: { WIDTH ≤ MOST_BITS };
 
     // both numbers of a value are below 2 ^ WIDTH
     ghost num_fits: { (x : Self) → Fits WIDTH (value x).num };

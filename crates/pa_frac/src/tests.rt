@@ -5,7 +5,7 @@ ghost use Rattle.pa_math.specs.Answers.{and_then};
 ghost use Rattle.std.specs.Prelude.{◌≡◌, true, IfNone, IfSome};
 
 use crate::small20::Small20;
-use crate::{Fraction, Wide, Wide126, add_whole, gcd, mul_whole};
+use crate::{Fraction, Narrow62, Wide, Wide126, add_whole, gcd, mul_whole};
 use std::cmp::Ordering;
 use std::test::Fail;
 
@@ -39,7 +39,7 @@ fn ratio_above<F: Fraction>(a: F, b: F) -> Option<Result<F, Wide>> {
 
 // The sum of `1 / k` for each k from 1 to below the end.
 fn harmonic<F: Fraction>(end: u8) -> Result<F, Wide> {
-    let mut sum = F::from_parts(0, 1)?;
+    let mut sum = F::zero();
     for k in 1..end {
         sum = sum.add(F::from_parts(1, i128::from(k))?)?;
     }
@@ -57,12 +57,18 @@ fn greatest<F: Fraction>(first: F, rest: &Vec<F>) -> Result<F, Wide> {
     Ok(best)
 }
 
-// What is expected of an operation: the two numbers, or `None` where it is `Wide`.
-fn same<F: Fraction>(answer: Result<F, Wide>, expected: Option<(i128, i128)>) -> bool {
-    match (answer, expected) {
-        (Ok(value), Some((num, den))) => value.num() == num && value.den() == den,
-        (Err(Wide), None) => true,
-        _ => false,
+// What an operation answers: the two numbers of a fraction, an order, or that a number passes.
+#[derive(Debug, PartialEq, Drop)]
+enum Outcome {
+    Is(i128, i128),
+    Ranks(Ordering),
+    Passes,
+}
+
+fn numbers<F: Fraction>(answer: Result<F, Wide>) -> Outcome {
+    match answer {
+        Ok(value) => Outcome::Is(value.num(), value.den()),
+        Err(Wide) => Outcome::Passes,
     }
 }
 
@@ -74,22 +80,23 @@ fn fraction<F: Fraction>(parts: (i128, i128)) -> Option<F> {
     F::from_parts(num, den).ok()
 }
 
-// Whether the operation of a name gives what is expected.
-fn holds<F: Fraction>(
+// What the operation of a name gives of two fractions.
+fn answer_of<F: Fraction>(
     operation: &str,
     left: (i128, i128),
     right: (i128, i128),
-    expected: Option<(i128, i128)>,
-) -> bool {
-    let (Some(x), Some(y)) = (fraction::<F>(left), fraction::<F>(right)) else {
-        return false;
-    };
+) -> Option<Outcome> {
+    let (x, y) = (fraction::<F>(left)?, fraction::<F>(right)?);
     match operation {
-        "add" => same(x.add(y), expected),
-        "sub" => same(x.sub(y), expected),
-        "mul" => same(x.mul(y), expected),
-        "div" => ratio(x, y).is_some_and(|answer| same(answer, expected)),
-        _ => false,
+        "add" => Some(numbers(x.add(y))),
+        "sub" => Some(numbers(x.sub(y))),
+        "mul" => Some(numbers(x.mul(y))),
+        "div" => ratio(x, y).map(|answer| numbers(answer)),
+        "compare" => match x.compare(y) {
+            Ok(order) => Some(Outcome::Ranks(order)),
+            Err(Wide) => Some(Outcome::Passes),
+        },
+        _ => None,
     }
 }
 
@@ -128,111 +135,180 @@ fn whole_numbers_are_exact_up_to_126_bits(rt: HostRuntime) {
     assert!(rt; add_whole(i128::MIN, i128::MAX) == Ok(-1));
 }
 
+// The sums whose denominators multiply to more than 126 bits and to less: `2^64 (2^64 - 1)` reaches
+// `2^126`, and `2^62 (2^62 - 1)` is `2^124 - 2^62`.
 #[test]
 fn operations_of_126_bits_are_exact_or_wide(rt: HostRuntime) {
     let last: i128 = (1 << 126) - 1;
     let half: i128 = (1 << 125) + 1;
+    let below: i128 = (1 << 124) - (1 << 62);
     let cases = [
-        ("add", (1, 1 << 64), (1, (1 << 64) - 1), None),
+        ("add", (1, 1 << 64), (1, (1 << 64) - 1), Outcome::Passes),
         (
             "add",
             (1, 1 << 62),
             (1, (1 << 62) - 1),
-            Some((
-                (1 << 63) - 1,
-                21_267_647_932_558_653_961_849_226_946_058_125_312,
-            )),
+            Outcome::Is((1 << 63) - 1, below),
         ),
-        ("add", (1, 6), (1, 10), Some((4, 15))),
-        ("add", (last, 1), (1, 1), None),
-        ("add", (last, 1), (-1, 1), Some((last - 1, 1))),
-        ("add", (1, 3 << 100), (-1, 5 << 100), Some((1, 15 << 99))),
-        ("add", (half, 2), (half, 2), Some((half, 1))),
-        ("sub", (1, 2), (1, 3), Some((1, 6))),
-        ("sub", (7, 4), (7, 4), Some((0, 1))),
-        ("sub", (-last, 1), (1, 1), None),
-        ("mul", (1 << 100, 3), (3, 1 << 100), Some((1, 1))),
-        ("mul", (1 << 70, 7), (1 << 70, 9), None),
+        ("add", (1, 6), (1, 10), Outcome::Is(4, 15)),
+        ("add", (last, 1), (1, 1), Outcome::Passes),
+        ("add", (last, 1), (-1, 1), Outcome::Is(last - 1, 1)),
+        (
+            "add",
+            (1, 3 << 100),
+            (-1, 5 << 100),
+            Outcome::Is(1, 15 << 99),
+        ),
+        ("add", (half, 2), (half, 2), Outcome::Is(half, 1)),
+        ("sub", (1, 2), (1, 3), Outcome::Is(1, 6)),
+        ("sub", (7, 4), (7, 4), Outcome::Is(0, 1)),
+        ("sub", (-last, 1), (1, 1), Outcome::Passes),
+        ("mul", (1 << 100, 3), (3, 1 << 100), Outcome::Is(1, 1)),
+        ("mul", (1 << 70, 7), (1 << 70, 9), Outcome::Passes),
         (
             "mul",
             (-(1 << 63), 1),
             ((1 << 63) - 1, 1),
-            Some((-85_070_591_730_234_615_856_620_279_821_087_277_056, 1)),
+            Outcome::Is((1 << 63) - (1 << 126), 1),
         ),
-        ("mul", (0, 1), (5, 7), Some((0, 1))),
-        ("div", (3, 1), (-2, 5), Some((-15, 2))),
-        ("div", (1 << 80, 3), (1 << 81, 5), Some((5, 6))),
-        ("div", (-1, 1 << 63), (-(1 << 63), 1), None),
-        ("div", (0, 1), (-7, 2), Some((0, 1))),
+        ("mul", (0, 1), (5, 7), Outcome::Is(0, 1)),
+        ("div", (3, 1), (-2, 5), Outcome::Is(-15, 2)),
+        ("div", (1 << 80, 3), (1 << 81, 5), Outcome::Is(5, 6)),
+        ("div", (-1, 1 << 63), (-(1 << 63), 1), Outcome::Passes),
+        ("div", (0, 1), (-7, 2), Outcome::Is(0, 1)),
+        (
+            "compare",
+            (1, 3 << 100),
+            (1, 5 << 100),
+            Outcome::Ranks(Ordering::Greater),
+        ),
+        ("compare", (-1, 2), (1, 3), Outcome::Ranks(Ordering::Less)),
+        ("compare", (4, 6), (2, 3), Outcome::Ranks(Ordering::Equal)),
+        (
+            "compare",
+            (1, 1 << 64),
+            (1, (1 << 64) - 1),
+            Outcome::Ranks(Ordering::Less),
+        ),
+        (
+            "compare",
+            (1 << 64, (1 << 63) - 1),
+            (1 << 64, (1 << 63) + 1),
+            Outcome::Passes,
+        ),
+        ("compare", (1 << 63, 5), (3, 1 << 63), Outcome::Passes),
     ];
     for (operation, left, right, expected) in cases {
-        assert!(rt;
-            holds::<Wide126>(operation, left, right, expected),
+        assert_eq!(rt;
+            answer_of::<Wide126>(operation, left, right),
+            Some(expected),
             "{operation} {left:?} {right:?}"
         );
     }
-    assert!(rt; fraction::<Wide126>((6, 4)).is_some_and(|x| same(Ok(x.neg()), Some((-3, 2)))));
     assert!(rt; fraction::<Wide126>((1 << 126, 2)).is_some());
     assert!(rt; fraction::<Wide126>((1 << 126, 3)).is_none());
 }
 
+// By hand: `2^32 (2^32 - 1)` reaches `2^62`, and `2^31 (2^31 - 1)` is `2^62 - 2^31`, which does not.
+// The sum of `1 / 2^31` and `1 / (2^31 - 1)` has the numerator `2^32 - 1`, which shares nothing with
+// either, since it is odd and 1 above twice the second.
 #[test]
-fn comparisons_divide_by_what_the_denominators_share(rt: HostRuntime) {
+fn operations_of_62_bits_are_exact_or_wide(rt: HostRuntime) {
+    let last: i128 = (1 << 62) - 1;
+    let half: i128 = (1 << 61) + 1;
+    let below: i128 = (1 << 62) - (1 << 31);
     let cases = [
-        ((1, 3 << 100), (1, 5 << 100), Some(Ordering::Greater)),
-        ((1 << 70, 3), (1 << 70, 5), Some(Ordering::Greater)),
-        ((-1, 2), (1, 3), Some(Ordering::Less)),
-        ((4, 6), (2, 3), Some(Ordering::Equal)),
-        ((1, 1 << 64), (1, (1 << 64) - 1), Some(Ordering::Less)),
-        ((1 << 64, (1 << 63) - 1), (1 << 64, (1 << 63) + 1), None),
-        ((1 << 63, 5), (3, 1 << 63), None),
-    ];
-    for (left, right, expected) in cases {
-        let (Some(x), Some(y)) = (fraction::<Wide126>(left), fraction::<Wide126>(right)) else {
-            continue;
-        };
-        assert!(rt; x.compare(y).ok() == expected, "{left:?} and {right:?}");
-    }
-}
-
-#[test]
-fn generic_code_runs_at_another_width(rt: HostRuntime) {
-    let cases = [
-        ("add", (1, 1024), (1, 1023), Some((2047, 1_047_552))),
-        ("add", (1, 1024), (1, 1025), None),
-        ("sub", (1_048_575, 1), (-1, 1), None),
-        ("mul", (524_288, 3), (3, 524_288), Some((1, 1))),
-        ("mul", (1024, 1), (1024, 1), None),
-        ("div", (1, 1023), (-1024, 1), Some((-1, 1_047_552))),
-        ("div", (1, 1025), (-1024, 1), None),
+        ("add", (1, 1 << 32), (1, (1 << 32) - 1), Outcome::Passes),
+        (
+            "add",
+            (1, 1 << 31),
+            (1, (1 << 31) - 1),
+            Outcome::Is((1 << 32) - 1, below),
+        ),
+        ("add", (1, 6), (1, 10), Outcome::Is(4, 15)),
+        ("add", (last, 1), (1, 1), Outcome::Passes),
+        ("add", (last, 1), (last, 1), Outcome::Passes),
+        ("add", (last, 1), (-1, 1), Outcome::Is(last - 1, 1)),
+        ("add", (1, 3 << 40), (-1, 5 << 40), Outcome::Is(1, 15 << 39)),
+        ("add", (half, 2), (half, 2), Outcome::Is(half, 1)),
+        ("sub", (7, 4), (7, 4), Outcome::Is(0, 1)),
+        ("sub", (-last, 1), (1, 1), Outcome::Passes),
+        ("mul", (1 << 50, 3), (3, 1 << 50), Outcome::Is(1, 1)),
+        ("mul", (1 << 35, 7), (1 << 35, 9), Outcome::Passes),
+        ("mul", (1 << 31, 1), (1 << 31, 1), Outcome::Passes),
+        (
+            "mul",
+            (-(1 << 31), 1),
+            ((1 << 31) - 1, 1),
+            Outcome::Is(-below, 1),
+        ),
+        ("div", (3, 1), (-2, 5), Outcome::Is(-15, 2)),
+        ("div", (1 << 40, 3), (1 << 41, 5), Outcome::Is(5, 6)),
+        ("div", (-1, 1 << 31), (-(1 << 31), 1), Outcome::Passes),
+        (
+            "compare",
+            (1, 3 << 40),
+            (1, 5 << 40),
+            Outcome::Ranks(Ordering::Greater),
+        ),
+        ("compare", (4, 6), (2, 3), Outcome::Ranks(Ordering::Equal)),
+        (
+            "compare",
+            (1, 1 << 32),
+            (1, (1 << 32) - 1),
+            Outcome::Ranks(Ordering::Less),
+        ),
+        (
+            "compare",
+            (1 << 32, (1 << 31) - 1),
+            (1 << 32, (1 << 31) + 1),
+            Outcome::Passes,
+        ),
+        ("compare", (1 << 31, 5), (3, 1 << 31), Outcome::Passes),
     ];
     for (operation, left, right, expected) in cases {
-        assert!(rt;
-            holds::<Small20>(operation, left, right, expected),
+        assert_eq!(rt;
+            answer_of::<Narrow62>(operation, left, right),
+            Some(expected),
             "{operation} {left:?} {right:?}"
         );
     }
-    assert!(rt; same(harmonic::<Small20>(13), Some((86_021, 27_720))));
-    assert!(rt; same(harmonic::<Small20>(14), None));
-    let longest = (
+    assert!(rt; fraction::<Narrow62>((1 << 62, 2)).is_some());
+    assert!(rt; fraction::<Narrow62>((1 << 62, 3)).is_none());
+    assert!(rt; fraction::<Narrow62>((1, 1 << 62)).is_none());
+}
+
+// The harmonic sums up to the last one that is not `Wide`.
+#[test]
+fn generic_code_runs_at_each_width(rt: HostRuntime) -> Result<(), Fail> {
+    assert_eq!(rt;
+        numbers(harmonic::<Small20>(13)),
+        Outcome::Is(86_021, 27_720)
+    );
+    assert_eq!(rt; numbers(harmonic::<Small20>(14)), Outcome::Passes);
+    assert_eq!(rt;
+        numbers(harmonic::<Narrow62>(44)),
+        Outcome::Is(532_145_396_070_491_417, 122_332_313_750_680_800)
+    );
+    assert_eq!(rt; numbers(harmonic::<Narrow62>(45)), Outcome::Passes);
+    let longest = Outcome::Is(
         40_866_521_918_642_154_860_585_199_122_889_549_709,
         8_076_030_954_443_701_744_994_070_304_101_969_600,
     );
-    assert!(rt; same(harmonic::<Wide126>(89), Some(longest)));
-    assert!(rt; same(harmonic::<Wide126>(90), None));
+    assert_eq!(rt; numbers(harmonic::<Wide126>(89)), longest);
+    assert_eq!(rt; numbers(harmonic::<Wide126>(90)), Outcome::Passes);
     assert!(rt; fraction::<Small20>((1, 1_048_577)).is_none());
-}
-
-#[test]
-fn a_pivot_step_and_a_greatest_value_at_two_types(rt: HostRuntime) -> Result<(), Fail> {
-    assert!(rt; pivots::<Wide126>());
-    assert!(rt; pivots::<Small20>());
+    assert!(rt; pivots::<Small20>() && pivots::<Narrow62>() && pivots::<Wide126>());
     let values = vec![in rt.alloc();
-        Wide126::from_parts(2, 3)?,
-        Wide126::from_parts(-5, 2)?,
-        Wide126::from_parts(3, 4)?,
+        Narrow62::from_parts(2, 3)?,
+        Narrow62::from_parts(-5, 2)?,
+        Narrow62::one(),
+        Narrow62::from_parts(3, 4)?,
     ]?;
-    assert!(rt; same(greatest(Wide126::from_parts(1, 2)?, &values), Some((3, 4))));
+    assert_eq!(rt;
+        numbers(greatest(Narrow62::from_parts(1, 2)?, &values)),
+        Outcome::Is(1, 1)
+    );
     Ok(())
 }
 
@@ -248,6 +324,7 @@ fn pivots<F: Fraction>() -> bool {
     let (Some(third), Ok(two)) = (fraction::<F>((1, 3)), step(a, f, p)) else {
         return false;
     };
-    same(Ok(two), Some((2, 1)))
-        && ratio_above(two, third).is_some_and(|answer| same(answer, Some((6, 1))))
+    two.num() == 2
+        && two.den() == 1
+        && ratio_above(two, third).is_some_and(|answer| numbers(answer) == Outcome::Is(6, 1))
 }

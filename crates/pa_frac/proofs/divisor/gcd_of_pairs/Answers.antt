@@ -15,5 +15,6 @@ returns c =
     let fits : a < 2 ^ bits w128 = search rules in
     let twos : c.gcd_of_odd_pairs.result * 2 ^ c.min-twos.result ≡ gcd_of a b =
     ap₂ (λ g p. g * 2 ^ p) c.gcd_of_odd_pairs.ensures c.min-twos.ensures
-    ∙ shared_twos (trailing_zeros w128 a) (trailing_zeros w128 b) (a / 2 ^ trailing_zeros w128 a) part.result a b (odd_part_factor w128 a up fits) (odd_part_odd w128 a up fits) part.ensures.factor part.ensures.odd in
+    ∙ shared_twos (trailing_zeros w128 a) (trailing_zeros w128 b) (a / 2 ^ trailing_zeros w128 a) part.result a b (odd_part_factor w128 a up fits)
+    (odd_part_odd w128 a up fits) part.ensures.factor part.ensures.odd in
     shift_back w128 c.gcd_of_odd_pairs.result (2 ^ c.min-twos.result) a b twos c.requires.right (search rules)

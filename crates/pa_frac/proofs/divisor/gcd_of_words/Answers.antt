@@ -21,5 +21,6 @@ returns c =
     let fits : a < 2 ^ bits w64 = search rules in
     let twos : c.gcd_of_odd_words.result * 2 ^ c.min-twos.result ≡ gcd_of a b =
     ap₂ (λ g p. g * 2 ^ p) c.gcd_of_odd_words.ensures c.min-twos.ensures
-    ∙ shared_twos (trailing_zeros w64 a) (trailing_zeros w64 b) (a / 2 ^ trailing_zeros w64 a) part.result a b (odd_part_factor w64 a up fits) (odd_part_odd w64 a up fits) part.ensures.factor part.ensures.odd in
+    ∙ shared_twos (trailing_zeros w64 a) (trailing_zeros w64 b) (a / 2 ^ trailing_zeros w64 a) part.result a b (odd_part_factor w64 a up fits)
+    (odd_part_odd w64 a up fits) part.ensures.factor part.ensures.odd in
     shift_back w64 c.gcd_of_odd_words.result (2 ^ c.min-twos.result) a b twos (omega arith) (search rules)
