@@ -1,5 +1,6 @@
 -- The names of a list that another one has not.
-use Rattle.std.proofs.Common.{◌≡◌, ℕ, ◌+◌, ◌≤◌, ◌<◌, Bool, true, false, not, cond, if◌then◌else◌, List, [], ◌∷◌, drop, length, filter, refl, ap, sym, ◌∙◌, arith}
+use Rattle.std.proofs.Common.{◌≡◌, ℕ, ◌+◌, ◌≤◌, ◌<◌, Bool, true, false, not, cond, if◌then◌else◌}
+use Rattle.std.proofs.Common.{List, [], ◌∷◌, drop, length, filter, refl, ap, sym, ◌∙◌, arith}
 use Rattle.std.specs.Prelude.{slice_get, Some, Ok, Err, nat_le}
 use Rattle.std.specs.List.{list_any, IsDistinct, AllByRecursion}
 use Rattle.std.specs.Str.{bytes_eq}
@@ -21,7 +22,8 @@ all_filter P p (x ∷ xs) h = cond_both (p x) (x ∷ filter p xs) (filter p xs) 
 distinct_filter : (p : List ℕ → Bool) (xs : List (List ℕ)) → IsDistinct bytes_eq xs → IsDistinct bytes_eq (filter p xs)
 distinct_filter p [] h = h
 distinct_filter p (x ∷ xs) h = cond_both (p x) (x ∷ filter p xs) (filter p xs) (IsDistinct bytes_eq)
-    (λ _. IsDistinct-cons bytes_eq x (filter p xs) (all_filter (λ y. bytes_eq x y ≡ false) p xs (IsDistinct-head bytes_eq x xs h)) (distinct_filter p xs (IsDistinct-tail bytes_eq x xs h)))
+    (λ _. IsDistinct-cons bytes_eq x (filter p xs) (all_filter (λ y. bytes_eq x y ≡ false) p xs (IsDistinct-head bytes_eq x xs h))
+    (distinct_filter p xs (IsDistinct-tail bytes_eq x xs h)))
     (λ _. distinct_filter p xs (IsDistinct-tail bytes_eq x xs h))
 
 length_filter : (p : List ℕ → Bool) (xs : List (List ℕ)) → length (filter p xs) ≤ length xs
@@ -45,7 +47,8 @@ kept_more xs names others i y found =
     ap (λ t. union bytes_eq xs (names_without t others)) head ∙ one_more (list_any (bytes_eq y) others) xs (names_without (drop (i + 1) names) others) y
 
 -- once what is held is too long, the whole union is
-pub kept_too_long : (start kept next rest : List (List ℕ)) → union bytes_eq next rest ≡ union bytes_eq start kept → most_names < length next → union_of start kept ≡ Err Limit
+pub kept_too_long : (start kept next rest : List (List ℕ)) → union bytes_eq next rest ≡ union bytes_eq start kept → most_names < length next
+    → union_of start kept ≡ Err Limit
 kept_too_long start kept next rest whole long =
     cond-false (nat_le (length (union bytes_eq start kept)) most_names) (Ok (union bytes_eq start kept)) (Err Limit)
     (lt-leb (length (union bytes_eq start kept)) most_names (omega (arith, long, length_union next rest, ap length whole)))

@@ -1,5 +1,6 @@
 -- Names in place of others.
-use Rattle.std.proofs.Common.{◌≡◌, ℕ, zero, suc, ◌+◌, ◌≤◌, ◌<◌, Bool, true, false, List, [], ◌∷◌, ◌++◌, drop, length, get_or, refl, ap, sym, ◌∙◌, arith, add-one, position, append_assoc, subst, inl, inr, ⊎_elim}
+use Rattle.std.proofs.Common.{◌≡◌, ℕ, zero, suc, ◌+◌, ◌≤◌, ◌<◌, Bool, true, false, List, [], ◌∷◌, ◌++◌, drop, length, get_or}
+use Rattle.std.proofs.Common.{refl, ap, sym, ◌∙◌, arith, add-one, position, append_assoc, subst, inl, inr, ⊎_elim}
 use Rattle.std.specs.Prelude.{slice_get, Some, ◌||◌, ◌⊎◌}
 use Rattle.std.specs.List.{list_any, IsDistinct}
 use Rattle.std.specs.Str.{bytes_eq}
@@ -56,7 +57,8 @@ renamed_here : (pairs : List (List ℕ × List ℕ)) (name : List ℕ) (i : ℕ)
 renamed_here [] name i d h at before = absurd (omega arith)
 renamed_here (p ∷ ps) name zero d h at before = sym (cond-true (bytes_eq name p.0) p.1 (renamed ps name) at)
 renamed_here (p ∷ ps) name (suc i) d h at before =
-    renamed_here ps name i d (omega arith) at (λ k b. before (suc k) (omega arith)) ∙ sym (cond-false (bytes_eq name p.0) p.1 (renamed ps name) (before 0 (omega arith)))
+    renamed_here ps name i d (omega arith) at (λ k b. before (suc k) (omega arith))
+    ∙ sym (cond-false (bytes_eq name p.0) p.1 (renamed ps name) (before 0 (omega arith)))
 
 -- the pair at the place where the old name stands first
 pub renamed_at : (pairs : List (List ℕ × List ℕ)) (name : List ℕ) (i : ℕ) (d : List ℕ × List ℕ) →
@@ -91,7 +93,8 @@ rest_at pairs names i y found = ap (all_renamed pairs)
 pub renamed_more : (pairs : List (List ℕ × List ℕ)) (names done more all : List (List ℕ)) (i : ℕ) (y new : List ℕ) → slice_get names i ≡ Some y →
     new ≡ renamed pairs y → more ≡ done ++ new ∷ [] → done ++ all_renamed pairs (drop i names) ≡ all → more ++ all_renamed pairs (drop (i + 1) names) ≡ all
 renamed_more pairs names done more all i y new found e f whole =
-    rw (f, e) (append_assoc done (renamed pairs y ∷ []) (all_renamed pairs (drop (i + 1) names)) ∙ ap (λ t. done ++ t) (sym (rest_at pairs names i y found)) ∙ whole)
+    rw (f, e)
+    (append_assoc done (renamed pairs y ∷ []) (all_renamed pairs (drop (i + 1) names)) ∙ ap (λ t. done ++ t) (sym (rest_at pairs names i y found)) ∙ whole)
 
 -- ---- a name that is there already
 twice : (done rest : List (List ℕ)) (new : List ℕ) → list_any (bytes_eq new) done ≡ true → IsDistinct bytes_eq (done ++ new ∷ rest) → ⊥
@@ -110,4 +113,5 @@ pub renamed_twice : (pairs : List (List ℕ × List ℕ)) (names done all : List
     new ≡ renamed pairs y → done ++ all_renamed pairs (drop i names) ≡ all → list_any (bytes_eq new) done ≡ true → ¬ IsDistinct bytes_eq all
 renamed_twice pairs names done all i y new found e whole held d =
     twice done (all_renamed pairs (drop (i + 1) names)) new held
-    (subst (IsDistinct bytes_eq) (sym whole ∙ ap (λ t. done ++ t) (rest_at pairs names i y found ∙ ap (λ t. t ∷ all_renamed pairs (drop (i + 1) names)) (sym e))) d)
+    (subst (IsDistinct bytes_eq)
+    (sym whole ∙ ap (λ t. done ++ t) (rest_at pairs names i y found ∙ ap (λ t. t ∷ all_renamed pairs (drop (i + 1) names)) (sym e))) d)

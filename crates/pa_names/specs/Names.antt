@@ -1,5 +1,6 @@
 -- Names, and lists of distinct names with their places.
-use Rattle.std.specs.Prelude.{ℕ, ◌&&◌, ◌||◌, ◌==◌, List, [], ◌∷◌, length, slice_index, filter, map, Bool, not, nat_lt, nat_le, codes, Result, Ok, Err, if◌then◌else◌}
+use Rattle.std.specs.Prelude.{ℕ, ◌&&◌, ◌||◌, ◌==◌, List, [], ◌∷◌, length, slice_index, filter, map}
+use Rattle.std.specs.Prelude.{Bool, not, nat_lt, nat_le, codes, Result, Ok, Err, if◌then◌else◌}
 use Rattle.std.specs.List.{list_all, list_any}
 use Rattle.std.specs.Str.{bytes_eq}
 use Rattle.std.specs.Char.{is_ascii_alphabetic, is_ascii_alphanumeric}
@@ -15,9 +16,13 @@ begins_name b = is_ascii_alphabetic b || b == 95
 abbrev pub continues_name : ℕ → Bool
 continues_name b = is_ascii_alphanumeric b || b == 95
 
+-- how many bytes a name has at most
+abbrev pub most_name_bytes : ℕ
+most_name_bytes = 64
+
 -- 1 to 64 bytes: a letter or `_`, then letters, digits and `_`, and not the word `keep`
 abbrev pub is_name : List ℕ → Bool
-is_name bytes = nat_le 1 (length bytes) && nat_le (length bytes) 64 && begins_name (slice_index bytes 0)
+is_name bytes = nat_le 1 (length bytes) && nat_le (length bytes) most_name_bytes && begins_name (slice_index bytes 0)
     && list_all continues_name bytes && not (bytes_eq bytes (codes "keep"))
 
 -- the name that the bytes are
@@ -28,9 +33,9 @@ name_of bytes = if is_name bytes then Ok bytes else Err Bad
 abbrev pub most_names : ℕ
 most_names = 4096
 
--- how many ports, and how many variables in one operation, there are at most
+-- how many ports a contract, and how many variables one operation, has at most
 abbrev pub most_ports : ℕ
-most_ports = 64
+most_ports = 128
 
 -- the place of a name that is added, or why it is not
 abbrev pub added_place : List (List ℕ) → List ℕ → Result ℕ NameFault

@@ -1,5 +1,5 @@
 // One name.
-ghost use Rattle.std.specs.Prelude.{◌≡◌, IsTrue};
+ghost use Rattle.std.specs.Prelude.{◌≡◌, IsTrue, IfErr, Ok};
 ghost use Rattle.std.specs.List.{list_all};
 ghost use Rattle.pa_math.specs.Answers.{IsAnswer};
 ghost use Rattle.pa_names.specs.Names as spec;
@@ -11,7 +11,7 @@ use std::marker::Model;
 
 /// The name of a variable or a contract: 1 to 64 bytes, a letter or `_`, then letters, digits and
 /// `_`, all ASCII. The word `keep` is no name.
-#[derive(Drop)]
+#[derive(Debug, Drop)]
 pub struct Name {
     bytes: Vec<u8>,
 }
@@ -75,7 +75,7 @@ fn all_continue(bytes: &[u8]) -> bool
 fn is_name(bytes: &[u8]) -> bool
     ensures { result ≡ spec.is_name bytes.now }
 {
-    if bytes.is_empty() || bytes.len() > 64 {
+    if bytes.is_empty() || bytes.len() > Name::MOST_BYTES {
         return false;
     }
     if !bytes[0].is_ascii_alphabetic() && bytes[0] != b'_' {
@@ -85,9 +85,14 @@ fn is_name(bytes: &[u8]) -> bool
 }
 
 impl Name {
-    /// The name that the bytes are. `Bad` exactly where they are no name.
+    /// How many bytes a name has at most.
+    pub const MOST_BYTES: usize = 64;
+
+    /// The name that the bytes are. `Bad` exactly where they are no name: `Memory` comes only where they
+    /// are one.
     pub fn read(alloc: Global, bytes: &[u8]) -> Result<Name, NameFault>
-        ensures { IsAnswer NameFault.Memory (spec.name_of bytes.now) result }
+        ensures answer { IsAnswer NameFault.Memory (spec.name_of bytes.now) result }
+        ensures memory { IfErr result (λ fault. fault ≡ NameFault.Memory → spec.name_of bytes.now ≡ Ok bytes.now) }
     {
         if !is_name(bytes) {
             return Err(NameFault::Bad);

@@ -21,13 +21,15 @@ pub struct Names {
 
 impl Model for Names {
     ghost use Rattle.std.specs.Prelude.{List, ℕ, length, ◌≤◌};
+    ghost use Rattle.std.specs.List.{IsDistinct};
+    ghost use Rattle.std.specs.Str.{bytes_eq};
     ghost use Rattle.pa_names.specs.Names.{most_names};
 
     ghost Value = { List (List ℕ) };
 
     ghost view = { λ n. n.names.keys };
 
-    ghost invariant = { λ n. length n.names.keys ≤ most_names };
+    ghost invariant = { λ n. (length n.names.keys ≤ most_names) × IsDistinct bytes_eq n.names.keys };
 }
 
 impl Names {
@@ -52,9 +54,11 @@ impl Names {
     }
 
     /// Adds a name at the end, and gives its place. `Taken` exactly where the name is there, and
-    /// `Limit` exactly where 4,096 names are there and it is not. A refusal leaves the list as it was.
+    /// `Limit` exactly where 4,096 names are there and it is not: `Memory` comes only where neither is
+    /// so. A refusal leaves the list as it was.
     pub fn add(&mut self, name: Name) -> Result<u32, NameFault>
         ensures answer { IsAnswer NameFault.Memory (spec.added_place self.old name) result }
+        ensures memory { IfErr result (λ fault. fault ≡ NameFault.Memory → spec.added_place self.old name ≡ Ok (length self.old)) }
         ensures ok { OnOk result (self.new ≡ self.old ++ name ∷ []) }
         ensures err { OnErr result (self.new ≡ self.old) }
     {

@@ -7,9 +7,12 @@ use Rattle.pa_names.proofs.names.Names.with_all_but.Goals as goal
 
 pub returns-in_err-add_unless : goal.returns-in_err-add_unless
 returns-in_err-add_unless c = IsAnswer-handed_on Memory c.in_err-add_unless.field-0.0 _ c.from_residual.result c.from_residual.ensures.1 (⊎_elim inl
-    (λ full. inr (kept_too_long c.args.self (names_without c.args.names.now c.args.other.now) _ (names_without (drop (c.loop-place.place + 1) c.args.names.now) c.args.other.now)
+    (λ full. inr (kept_too_long c.args.self (names_without c.args.names.now c.args.other.now) _
+    (names_without (drop (c.loop-place.place + 1) c.args.names.now) c.args.other.now)
     (sym (kept_more c.loop-place.self c.args.names.now c.args.other.now c.loop-place.place c.at.result.now c.at.ensures) ∙ c.loop-place.invariant) full.1
     ∙ ap Err (sym full.0))) c.in_err-add_unless.ensures.limit)
 
 pub returns : goal.returns
-returns c = kept_whole c.args.self (names_without c.args.names.now c.args.other.now) c.loop-place.self c.args.names.now c.args.other.now c.loop-place.place (omega arith) c.loop-place.invariant (omega arith)
+returns c =
+    kept_whole c.args.self (names_without c.args.names.now c.args.other.now) c.loop-place.self c.args.names.now c.args.other.now c.loop-place.place
+    (omega arith) c.loop-place.invariant (omega arith)
