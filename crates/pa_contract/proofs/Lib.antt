@@ -1,5 +1,3 @@
-pub mod Places
-pub mod Columns
 pub mod MergedPorts
 pub mod Meets
 pub mod Results
@@ -7,3 +5,6 @@ pub mod Merged
 pub mod Steps
 pub mod Fitting
 pub mod Made
+pub mod Fronts
+pub mod Words
+pub mod Counts

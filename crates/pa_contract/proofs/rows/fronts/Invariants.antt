@@ -1,0 +1,7 @@
+use Rattle.std.proofs.Common.{◌≡◌, ◌++◌, drop, map}
+use Rattle.pa_contract.specs.Make.{first_columns}
+use Rattle.pa_contract.proofs.rows.fronts.Given as goal
+
+-- the rows so far and those of the rest are all rows
+abbrev pub invariant-loop-row : goal.invariant-loop-row
+invariant-loop-row l = l.list.items ++ map (first_columns l.columns) (drop l.row-index l.rows) ≡ map (first_columns l.columns) l.rows
