@@ -1,0 +1,10 @@
+pub mod Turns
+pub mod Lengths
+pub mod Made
+pub mod Exact
+pub mod Places
+pub mod Cleaned
+pub mod CleanTurns
+pub mod Bounds
+pub mod GroupPlaces
+pub mod Walks

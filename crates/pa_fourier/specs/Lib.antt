@@ -1,0 +1,10 @@
+pub mod Versions
+pub mod StepFaults
+pub mod Cleaning
+pub mod Groups
+pub mod Chains
+pub mod Bounds
+pub use Rattle.pa_witness.specs.Elimination
+pub use Rattle.pa_witness.specs.Equalities
+pub use Rattle.pa_witness.specs.Steps
+pub use Rattle.pa_witness.specs.Thinning
