@@ -1,0 +1,12 @@
+pub mod Composed
+pub mod Refined
+pub mod Bounded
+pub mod Divided
+pub mod Refusals
+pub mod Tested
+pub mod Answers
+pub mod Tables
+pub mod WellFormed
+pub mod Examples
+pub mod PartExamples
+pub mod PointExamples

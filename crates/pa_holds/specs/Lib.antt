@@ -1,0 +1,10 @@
+pub mod Composed
+pub mod Refined
+pub mod Bounded
+pub mod Divided
+pub mod Refusals
+pub mod Questions
+pub mod Limits
+pub mod Answers
+pub mod Tables
+pub mod Laws
