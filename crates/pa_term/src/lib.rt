@@ -3,6 +3,8 @@
 
 mod first;
 #[cfg(test)]
+mod grammar_tests;
+#[cfg(test)]
 mod tests;
 mod write;
 

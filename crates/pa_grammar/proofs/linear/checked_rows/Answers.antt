@@ -1,0 +1,17 @@
+-- The rows are due where no pair is faulty, and else the place of the first one.
+use Rattle.std.proofs.Common.{sym, subst, inr, Err, ◌∙◌}
+use Rattle.pa_row.specs.Answers.{IsRowAnswer}
+use Rattle.pa_grammar.specs.Chosen.{rows_in}
+use Rattle.pa_grammar.proofs.TermAnswers.{rows_found, rows_wide, pair_found}
+use Rattle.pa_grammar.proofs.linear.checked_rows.Goals as goal
+
+pub returns-in-Some : goal.returns-in-Some
+returns-in-Some c = inr (pair_found c.args.names c.args.tokens.now c.args.pieces.now c.in-Some.pair c.fault_place-at.result
+    (sym c.first_fault.ensures ∙ c.in-Some.is) c.fault_place-at.ensures)
+
+pub returns-in-Ok : goal.returns-in-Ok
+returns-in-Ok c = rows_found c.args.names c.args.tokens.now c.args.pieces.now c.in-Ok.rows.items (sym c.first_fault.ensures ∙ c.in_default.is) c.in-Ok.ensures
+
+pub returns-in-Err-Wide : goal.returns-in-Err-Wide
+returns-in-Err-Wide c = inr (rows_wide c.args.names c.args.tokens.now c.args.pieces.now (sym c.first_fault.ensures ∙ c.in_default.is)
+    (subst (λ f. IsRowAnswer (rows_in c.args.names c.args.pieces.now) (Err f)) c.in-Err-Wide.field-0-is c.in-Err-Wide.ensures))
