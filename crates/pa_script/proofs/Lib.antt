@@ -1,0 +1,10 @@
+pub mod LimitBack
+pub mod ListBack
+pub mod Cursor
+pub mod RoundTrip
+pub mod Texts
+pub mod Numbered
+pub mod Short
+pub mod Limits
+pub mod Mapped
+pub mod Turns

@@ -1,0 +1,9 @@
+pub mod Ops
+pub mod Words
+pub mod Values
+pub mod Steps
+pub mod Points
+pub mod Lines
+pub mod Script
+pub mod LineText
+pub mod Form
