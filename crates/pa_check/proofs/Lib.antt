@@ -1,0 +1,11 @@
+pub mod Tests
+pub mod Turns
+pub mod Directions
+pub mod Proofs
+pub mod Drops
+pub mod Goals
+pub mod Ports
+pub mod Bridges
+pub mod StuckRows
+pub mod ShiftedRows
+pub mod Points
