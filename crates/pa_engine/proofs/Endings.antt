@@ -1,5 +1,6 @@
 -- From what the two fetches gave to what stands at the paths.
-use Rattle.std.proofs.Common.{◌≡◌, ℕ, ◌+◌, ◌<◌, ◌⊎◌, List, take, length, refl, ap, sym, ◌∙◌, subst, inl, inr, ⊎_elim, arith, Option, Some, None, Result, Ok, Err, IfOk, length-take-le, lt-ltb}
+use Rattle.std.proofs.Common.{◌≡◌, ℕ, ◌+◌, ◌<◌, ◌⊎◌, List, take, length, refl, ap, sym, ◌∙◌, subst, inl, inr}
+use Rattle.std.proofs.Common.{⊎_elim, arith, Option, Some, None, Result, Ok, Err, IfOk, length-take-le, lt-ltb}
 use Rattle.std.specs.Prelude.{IsErr, option_map, option_and_then, nat_lt, nat_le}
 use Rattle.std.proofs.lemmas.Bool.{cond-true, cond-false, lt-leb, cases_lt}
 use Rattle.std.proofs.lemmas.List.{take_all}
@@ -57,7 +58,8 @@ fetched None path read most refusal long bytes given = record { content = bytes;
 fetched (Some files) path read most refusal long bytes given = fetched_in files path read most refusal long bytes (content_at path files) refl given
 
 long_diagram : (bytes : List ℕ) → 1048576 < length bytes → diagram_of bytes ≡ Err TooLong
-long_diagram bytes long = cond-true (nat_lt 1048576 (length bytes)) (Err TooLong) (and_then (needed Json (tree_of bytes)) contracts_of) (lt-ltb 1048576 (length bytes) long)
+long_diagram bytes long =
+    cond-true (nat_lt 1048576 (length bytes)) (Err TooLong) (and_then (needed Json (tree_of bytes)) contracts_of) (lt-ltb 1048576 (length bytes) long)
 
 long_script : (diagram : List Named) (bytes : List ℕ) → 262144 < length bytes → answered_of diagram bytes ≡ None
 long_script diagram bytes long =
@@ -72,7 +74,8 @@ script_ends told path diagram read bytes (ending.Report text) whole known = reco
   truth = known.2;
   text_is = known.3;
 }
-script_ends told path diagram read bytes (ending.Input (Early Script)) whole known = record { bytes = whole.content; stands = whole.stands; refused = sym whole.same ∙ known }
+script_ends told path diagram read bytes (ending.Input (Early Script)) whole known =
+    record { bytes = whole.content; stands = whole.stands; refused = sym whole.same ∙ known }
 script_ends told path diagram read bytes (ending.Input (Early Diagram)) whole known = absurd known
 script_ends told path diagram read bytes (ending.ReadFault which) whole known = absurd known
 
@@ -95,8 +98,8 @@ diagram_ends paths told diagram read later step is (ending.ReadFault Script) kno
 diagram_ends paths told diagram read later step is (ending.ReadFault Diagram) known = absurd known
 
 -- the ending over the bytes that were fetched is that of the diagram at the path
-pub IsEnding-fetched : (paths : Paths) (told : Option Files) (read later : Type 0) → (read → later) → (bytes : List ℕ) → GivesFront told paths.diagram 1048576 bytes
-    → (e : Ending) → IsBytesEnding told paths.script bytes read e → IsEnding paths told later e
+pub IsEnding-fetched : (paths : Paths) (told : Option Files) (read later : Type 0) → (read → later) → (bytes : List ℕ)
+    → GivesFront told paths.diagram 1048576 bytes → (e : Ending) → IsBytesEnding told paths.script bytes read e → IsEnding paths told later e
 IsEnding-fetched paths told read later step bytes given e (inl known) =
     let whole = fetched told paths.diagram diagram_of 1048576 (Err TooLong) long_diagram bytes given in
     diagram_ends paths told known.0 read later step (record { bytes = whole.content; stands = whole.stands; read = sym whole.same ∙ known.1 }) e known.2

@@ -10,7 +10,7 @@ use Rattle.std.proofs.lemmas.Bool.{cond-true, cond-false, le-leb, both_ways, fal
 use Rattle.std.proofs.lemmas.Slice.Eq.{bytes_eq-Decides}
 use Rattle.std.proofs.lemmas.Map.Keys.{IsDistinct-head, IsDistinct-tail}
 use Rattle.pa_math.specs.Lists.{union}
-use Rattle.pa_names.specs.Names.{most_names, union_of}
+use Rattle.pa_names.specs.Names.{most_names, most_ports, union_of}
 use Rattle.pa_names.specs.declared.fault.NameFault.TheVariants.{Limit}
 use Rattle.pa_engine.specs.Report.{names_text}
 
@@ -33,7 +33,8 @@ not_before : (xs : List (List ℕ)) (y : List ℕ) (ys : List (List ℕ)) → Is
 not_before [] y ys distinct = refl
 not_before (x ∷ xs) y ys distinct =
     let all = All-from_recursion (λ z. bytes_eq x z ≡ false) (xs ++ y ∷ ys) (IsDistinct-head bytes_eq x (xs ++ y ∷ ys) distinct) in
-    let differs : bytes_eq x y ≡ false = All-contains (λ z. bytes_eq x z ≡ false) (xs ++ y ∷ ys) y all (Contains-append_right xs (y ∷ ys) y (contains_first y ys)) in
+    let differs : bytes_eq x y ≡ false =
+    All-contains (λ z. bytes_eq x z ≡ false) (xs ++ y ∷ ys) y all (Contains-append_right xs (y ∷ ys) y (contains_first y ys)) in
     let back : bytes_eq y x ≡ false = false_from_ne_true (bytes_eq y x)
     (λ same. both_ways (bytes_eq x y) differs ((bytes_eq-Decides x y).1 (sym ((bytes_eq-Decides y x).0 same)))) in
     rw (back, not_before xs y ys (IsDistinct-tail bytes_eq x (xs ++ y ∷ ys) distinct)) refl
@@ -47,6 +48,6 @@ union-parts xs (y ∷ ys) distinct =
     ∙ append_assoc xs (y ∷ []) ys
 
 -- so it may be held where the list may
-pub union_of-parts : (xs ys : List (List ℕ)) → IsDistinct bytes_eq (xs ++ ys) → length (xs ++ ys) ≤ 64 → union_of xs ys ≡ Ok (xs ++ ys)
+pub union_of-parts : (xs ys : List (List ℕ)) → IsDistinct bytes_eq (xs ++ ys) → length (xs ++ ys) ≤ most_ports → union_of xs ys ≡ Ok (xs ++ ys)
 union_of-parts xs ys distinct few = rw (union-parts xs ys distinct)
     (cond-true (nat_le (length (xs ++ ys)) most_names) (Ok (xs ++ ys)) (Err Limit) (le-leb (length (xs ++ ys)) most_names (omega arith)))

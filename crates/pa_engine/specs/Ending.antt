@@ -33,7 +33,8 @@ IsEnding paths told read e = IsDueFor paths told read (status_of e) (text_of e)
 
 -- the ending for a script of which this is the line with its answer, if it has both
 abbrev pub IsAnsweredEnding : List Named → Option Answered → Ending → Type 0
-IsAnsweredEnding diagram found (ending.Report text) = (answered : Answered) × (found ≡ Some answered) × IsTrueAnswer diagram answered.line.op answered.answer × (text ≡ report_of (answered ∷ []))
+IsAnsweredEnding diagram found (ending.Report text) =
+    (answered : Answered) × (found ≡ Some answered) × IsTrueAnswer diagram answered.line.op answered.answer × (text ≡ report_of (answered ∷ []))
 IsAnsweredEnding diagram found (ending.Input (Early Script)) = found ≡ None
 IsAnsweredEnding diagram found (ending.Input (Early Diagram)) = ⊥
 IsAnsweredEnding diagram found (ending.ReadFault which) = ⊥

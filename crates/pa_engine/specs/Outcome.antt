@@ -55,9 +55,11 @@ pub record IsReport (told : Option Files) (path : List ℕ) (diagram : List Name
 abbrev pub IsDueFor : Paths → Option Files → Type 0 → Status → List ℕ → Type 0
 IsDueFor paths told read Done text = (diagram : List Named) × IsDiagram told paths.diagram diagram × IsReport told paths.script diagram text
 IsDueFor paths told read (Input (Early Diagram)) text = IsNoDiagram told paths.diagram × (text ≡ line_of (Input (Early Diagram)))
-IsDueFor paths told read (Input (Early Script)) text = (diagram : List Named) × IsDiagram told paths.diagram diagram × IsNoScript told paths.script diagram × (text ≡ line_of (Input (Early Script)))
+IsDueFor paths told read (Input (Early Script)) text =
+    (diagram : List Named) × IsDiagram told paths.diagram diagram × IsNoScript told paths.script diagram × (text ≡ line_of (Input (Early Script)))
 IsDueFor paths told read (ReadFault Diagram) text = (IsMissing told paths.diagram ⊎ read) × (text ≡ line_of (ReadFault Diagram))
-IsDueFor paths told read (ReadFault Script) text = (diagram : List Named) × IsDiagram told paths.diagram diagram × (IsMissing told paths.script ⊎ read) × (text ≡ line_of (ReadFault Script))
+IsDueFor paths told read (ReadFault Script) text =
+    (diagram : List Named) × IsDiagram told paths.diagram diagram × (IsMissing told paths.script ⊎ read) × (text ≡ line_of (ReadFault Script))
 IsDueFor paths told read Usage text = ⊥
 IsDueFor paths told read WriteFault text = ⊥
 IsDueFor paths told read Memory text = ⊥

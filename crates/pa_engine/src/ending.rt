@@ -9,7 +9,7 @@ use crate::report::report_of;
 use crate::script::{MOST_SCRIPT, read_script};
 use crate::{InputFault, Which};
 use pa_desk::{FetchFault, Shelf};
-use pa_json::{Diagram, DiagramFault, MOST_BYTES, read_diagram};
+use pa_json::{Diagram, DiagramFault, MOST_DIAGRAM_BYTES, read_diagram};
 use std::alloc::{AllocError, Global};
 use std::marker::Model;
 
@@ -107,7 +107,7 @@ pub(crate) fn ending_of<H: Shelf>(
         (Rose (H.faults shelf.old) (H.faults shelf.new))) }
     ensures same { H.holds shelf.new ≡ H.holds shelf.old }
 {
-    match shelf.fetch(alloc, diagram, MOST_BYTES) {
+    match shelf.fetch(alloc, diagram, MOST_DIAGRAM_BYTES) {
         Ok(bytes) => with_bytes(alloc, &bytes, script, shelf),
         Err(FetchFault::Failed) => Ok(Ending::ReadFault(Which::Diagram)),
         Err(FetchFault::Memory) => Err(AllocError),

@@ -12,7 +12,7 @@ use std::alloc::Global;
 use std::marker::Model;
 
 /// How many bytes a diagram has at most.
-pub const MOST_BYTES: u64 = 1_048_576;
+pub const MOST_DIAGRAM_BYTES: u64 = 1_048_576;
 
 // How many contracts a diagram has at most.
 const MOST_CONTRACTS: usize = 200;
@@ -104,7 +104,7 @@ fn read_tree(alloc: Global, tree: &Value) -> Result<Diagram, DiagramFault>
 pub fn read_diagram(alloc: Global, bytes: &Vec<u8>) -> Result<Diagram, DiagramFault>
     ensures { IsAnswer DiagramFault.Memory (spec.diagram_of bytes.now.items) result }
 {
-    if bytes.len() as u64 > MOST_BYTES {
+    if bytes.len() as u64 > MOST_DIAGRAM_BYTES {
         return Err(DiagramFault::TooLong);
     }
     match Value::from_slice(alloc, bytes) {

@@ -9,7 +9,7 @@ mod named;
 mod path;
 mod rows;
 
-pub use diagram::{Diagram, MOST_BYTES, read_diagram};
+pub use diagram::{Diagram, MOST_DIAGRAM_BYTES, read_diagram};
 pub use fault::{DiagramFault, MakeKind};
 pub use named::Named;
 pub use path::Path;

@@ -7,12 +7,21 @@ use pa_engine::{Status, run, status_number};
 use std::process::ExitCode;
 use std::{env, io};
 
-// Where the system does not give the words.
-const NO_WORDS: u8 = 9;
+// Where a word is not UTF-8.
+const NOT_UTF8: u8 = 9;
+
+// The exit status where the words are not given: memory ran out, or a word is not UTF-8.
+fn number_without_words(fault: &io::Error) -> u8 {
+    match fault.kind() {
+        io::ErrorKind::OutOfMemory => status_number(&Status::Memory),
+        _ => NOT_UTF8,
+    }
+}
 
 fn main(rt: HostRuntime) -> ExitCode {
-    let Ok(mut given) = env::args(&rt) else {
-        return ExitCode::from(NO_WORDS);
+    let mut given = match env::args(&rt) {
+        Ok(given) => given,
+        Err(fault) => return ExitCode::from(number_without_words(&fault)),
     };
     let _program = given.next();
     let mut words = Vec::new(rt.alloc());
