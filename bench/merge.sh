@@ -1,6 +1,7 @@
 #!/bin/sh
 # Measures the proved program: wall time and peak memory of one run on each input that inputs.py makes.
-# It prints what it measured, and fails only where the program ends with another status than it should.
+# It prints what it measured, and fails only where the program ends with another status than it should. It can be called
+# from any folder, and needs GNU time, python3 and, where the program is not built yet, rt.
 
 bench=$(cd "$(dirname -- "$0")" && pwd) || exit 1
 root=$bench/..
