@@ -2,7 +2,7 @@
 use Rattle.std.proofs.Common.{◌≡◌, ℕ, zero, suc, ◌<◌, ◌≤◌, ◌+◌, ◌*◌, ◌/◌, ◌-◌, Bool, true, false, if◌then◌else◌, nat_le, refl, ap, subst, ◌∙◌, arith}
 use Rattle.std.proofs.Math.Nat.{mul-div_cancel}
 use Rattle.pa_ring.specs.Choices.{choices}
-use Rattle.pa_bland.specs.Limits.{most_bases}
+use Rattle.pa_replay.specs.Limits.{most_bases}
 
 -- a choice of one thing more, with one of its things marked, is a thing and a choice of the other ones
 pub absorbs : (n k : ℕ) → suc k * choices (suc n) (suc k) ≡ suc n * choices n k

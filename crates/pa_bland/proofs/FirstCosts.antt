@@ -12,11 +12,12 @@ use Rattle.pa_tableau.specs.Arithmetic.{Arithmetic, each}
 use Rattle.pa_tableau.specs.Tableau.{line_at, number_at, told_at}
 use Rattle.pa_tableau.specs.Work.{Work}
 use Rattle.pa_tableau.proofs.Walks.{ok_same}
-use Rattle.pa_bland.specs.Problem.{cost_in, first_costs, running_sum}
+use Rattle.pa_replay.specs.Problem.{cost_in, first_costs, running_sum}
 use Rattle.pa_bland.specs.Seen.{IsBegun, with_cell, with_line}
-use Rattle.pa_bland.proofs.Bridges.{each_length}
+use Rattle.pa_replay.proofs.Bridges.{each_length}
 use Rattle.pa_bland.proofs.Filled.{IsFilling, filling_ends, filling_refused}
 use Rattle.pa_bland.proofs.LoadedLines.{cell_written}
+use Rattle.pa_replay.proofs.LoadSteps.{cost_step}
 
 -- one line more
 pub sum_turns : (A : Arithmetic) (row column i n : ℕ) (sum next : ℚ) (lines : List (List ℚ)) → i < n → n ≤ length lines →
@@ -39,10 +40,6 @@ sum_refused A row column i n sum wide lines low inside is =
     ∙ ap (λ line. and_then (told_at 0 row column (A.sum sum (number_at line column))) (λ next. running_sum A row column next (drop (suc i) (take n lines))))
     (get_or-take n lines i [] low)
     ∙ ap (λ (r : Result ℚ WideAt). and_then r (λ next. running_sum A row column next (drop (suc i) (take n lines)))) is
-
--- the step of a column of cost row 1
-abbrev pub cost_step : Arithmetic → ℕ → List (List ℚ) → ℕ → ℕ → Result ℚ WideAt
-cost_step A n lines i j = cost_in A n lines j
 
 -- the lines are not touched by what is written into the cost row
 pub lines_kept : (n : ℕ) (start now : Work) (cells : List ℚ) → now ≡ with_line start n cells → take n now.table.lines ≡ take n start.table.lines

@@ -13,11 +13,11 @@ use Rattle.pa_tableau.specs.Arithmetic.{Arithmetic, left_by}
 use Rattle.pa_tableau.specs.Tableau.{told_at}
 use Rattle.pa_tableau.specs.Work.{Work}
 use Rattle.pa_tableau.proofs.Walks.{ok_same}
-use Rattle.pa_bland.specs.Problem.{Problem, is_turned, loaded_line, loaded_numbers, numbers_of, turned_number, unit_numbers}
+use Rattle.pa_replay.specs.Problem.{Problem, is_turned, loaded_line, loaded_numbers, numbers_of, turned_number, unit_numbers}
 use Rattle.pa_bland.specs.Seen.{IsBegun, with_cell, with_line, with_sign}
-use Rattle.pa_bland.proofs.Bridges.{each_length}
+use Rattle.pa_replay.proofs.Bridges.{each_length}
 use Rattle.pa_bland.proofs.Filled.{number_step}
-use Rattle.pa_bland.proofs.Numbers.{length_numbers, own_numbers}
+use Rattle.pa_replay.proofs.Numbers.{length_numbers, own_numbers}
 
 same_or_not : (i l : ℕ) → (i ≡ l) ⊎ (i ≡ l → ⊥)
 same_or_not i l = search arith

@@ -11,17 +11,15 @@ use Rattle.pa_math.specs.Rational.{ℚ, whole}
 use Rattle.pa_row.proofs.Dots.{and_then_assoc, and_then_ok}
 use Rattle.pa_tableau.specs.declared.wide_at.WideAt.{WideAt}
 use Rattle.pa_tableau.specs.Arithmetic.{Arithmetic, each, left_by}
-use Rattle.pa_tableau.specs.Tableau.{Tableau, cleared, line_at}
+use Rattle.pa_tableau.specs.Tableau.{cleared, line_at}
 use Rattle.pa_tableau.specs.Work.{Work}
 use Rattle.pa_tableau.proofs.Fillings.{range_more}
 use Rattle.pa_tableau.proofs.Walks.{behind, behind_none, behind_more, behind_fault, ok_same}
-use Rattle.pa_bland.specs.Problem.{Problem, bounds, first_costs, is_turned, loaded, loaded_line, loaded_numbers, numbers_of}
+use Rattle.pa_replay.specs.Problem.{Problem, first_costs, is_turned, loaded, loaded_line, loaded_numbers, numbers_of}
 use Rattle.pa_bland.specs.Seen.{KeepsShape, with_line, with_sign}
 use Rattle.pa_bland.proofs.Filled.{rest_after, shape_after}
-use Rattle.pa_bland.proofs.Numbers.{bound_numbers}
-
-abbrev pub line_step : Arithmetic → Problem → ℕ → ℕ → Result (List ℚ) WideAt
-line_step A p i row = loaded_line A p i
+use Rattle.pa_replay.proofs.Numbers.{bound_numbers}
+use Rattle.pa_replay.proofs.LoadSteps.{after_costs, after_lines, line_step, tableau_of}
 
 abbrev pub empty_line : ℕ → List ℚ
 empty_line columns = replicate columns (whole (pos 0))
@@ -111,21 +109,6 @@ loading_turns A p start now next i done h low e k = by_answer (loaded_line A p i
           signs = ap (λ (w : Work). w.table.turned) next_is ∙ ap (λ turned. set turned i (is_turned p.target i)) h.signs ∙ sign_more p.target i low;
           shape = shape_after start now next h.shape k;
         }
-
--- what comes after the lines, and after cost row 2
-abbrev pub tableau_of : Problem → List (List ℚ) → List ℚ → List ℚ → Tableau
-tableau_of p lines costs first = record {
-  lines = lines ++ first ∷ (costs ++ replicate (length p.target + 1) (whole (pos 0))) ∷ [];
-  basis = range_with_len (length p.rows) (length p.target);
-  turned = map (is_turned p.target) (range_with_len 0 (length p.target));
-}
-
-abbrev pub after_costs : Arithmetic → Problem → List (List ℚ) → Result (List ℚ) WideAt → Result Tableau WideAt
-after_costs A p lines costs = and_then costs (λ costs. and_then (first_costs A (length p.target) (length p.rows) lines)
-    (λ first. Ok (tableau_of p lines costs first)))
-
-abbrev pub after_lines : Arithmetic → Problem → Result (List (List ℚ)) WideAt → Result Tableau WideAt
-after_lines A p lines = and_then lines (λ lines. after_costs A p lines (loaded_numbers A (length p.target + 1) (bounds p)))
 
 pub loading_refused : (A : Arithmetic) (p : Problem) (start now next : Work) (i : ℕ) (wide : WideAt) → IsLoading A p start now i → i < length p.target →
     left_by {A = Work} (Err wide) next ≡ and_then (loaded_line A p i) (λ cells. Ok (with_sign (with_line now i cells) i (is_turned p.target i))) →

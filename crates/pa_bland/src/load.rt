@@ -9,7 +9,7 @@ ghost use Rattle.pa_frac.specs.Width.{Fits};
 ghost use Rattle.pa_tableau.specs.Arithmetic.{at_width, left_by};
 ghost use Rattle.pa_tableau.specs.Tableau.{line_at, told_at};
 ghost use Rattle.pa_tableau.specs.Work.{HasRoom};
-ghost use Rattle.pa_bland.specs.Problem.{cost_in, first_costs, is_turned as is_turned_in, loaded, loaded_line, loaded_numbers, numbers_of, turned_number};
+ghost use Rattle.pa_replay.specs.Problem.{cost_in, first_costs, is_turned as is_turned_in, loaded, loaded_line, loaded_numbers, numbers_of, turned_number};
 ghost use Rattle.pa_bland.specs.Seen.{IsBegun, KeepsRoom, KeepsShape, valued_at, with_cell, with_line, with_sign};
 
 use crate::Problem;

@@ -5,7 +5,7 @@ use Rattle.pa_math.specs.Rational.{whole}
 use Rattle.pa_tableau.specs.declared.wide_at.WideAt.{WideAt}
 use Rattle.pa_tableau.specs.Arithmetic.{Arithmetic, at_width}
 use Rattle.pa_tableau.specs.Work.{Work}
-use Rattle.pa_bland.specs.Problem.{Problem, first_costs, loaded, loaded_numbers, numbers_of}
+use Rattle.pa_replay.specs.Problem.{Problem, first_costs, loaded, loaded_numbers, numbers_of}
 use Rattle.pa_bland.specs.Seen.{with_line}
 use Rattle.pa_bland.proofs.Loading.{IsLoading, begun_work, bounds_refused, loading_refused, loading_turns, next_clear, next_straight, table_loaded}
 use Rattle.pa_bland.proofs.load.load.Goals as goal

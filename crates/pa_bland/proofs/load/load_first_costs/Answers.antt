@@ -7,11 +7,12 @@ use Rattle.pa_tableau.specs.declared.wide_at.WideAt.{WideAt}
 use Rattle.pa_tableau.specs.Arithmetic.{Arithmetic, at_width}
 use Rattle.pa_tableau.specs.Tableau.{line_at}
 use Rattle.pa_tableau.specs.Work.{Work}
-use Rattle.pa_bland.specs.Problem.{cost_in, first_costs}
+use Rattle.pa_replay.specs.Problem.{cost_in, first_costs}
 use Rattle.pa_bland.specs.Seen.{with_cell}
 use Rattle.pa_bland.proofs.Filled.{IsFilling, filling_starts, filling_turns, shape_after}
-use Rattle.pa_bland.proofs.FirstCosts.{cost_step, costs_loaded, costs_refused, costs_stopped, lines_kept}
+use Rattle.pa_bland.proofs.FirstCosts.{costs_loaded, costs_refused, costs_stopped, lines_kept}
 use Rattle.pa_bland.proofs.load.load_first_costs.Goals as goal
+use Rattle.pa_replay.proofs.LoadSteps.{cost_step}
 
 pub loop-column-init : goal.loop-column-init
 loop-column-init g c = record {

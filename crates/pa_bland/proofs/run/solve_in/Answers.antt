@@ -1,9 +1,9 @@
 use Rattle.std.proofs.Common.{◌≡◌, ◌∙◌, length, ap, rules, vec_len}
 use Rattle.pa_math.specs.Answers.{and_then}
 use Rattle.pa_tableau.specs.Arithmetic.{at_width}
-use Rattle.pa_bland.specs.Problem.{Problem}
-use Rattle.pa_bland.specs.Replay.{run_from}
-use Rattle.pa_bland.proofs.Replays.{exact_fixed, exact_apart, answer_unlimited}
+use Rattle.pa_replay.specs.Problem.{Problem}
+use Rattle.pa_replay.specs.Replay.{run_from}
+use Rattle.pa_replay.proofs.Replays.{exact_fixed, exact_apart, answer_unlimited}
 use Rattle.pa_bland.proofs.run.solve_in.Goals as goal
 
 pub returns-in-Err-clause-fixed : goal.returns-in-Err-clause-fixed
