@@ -38,3 +38,4 @@ pub mod LoadWidths
 pub mod Replays
 pub mod Degenerate
 pub mod Exact
+pub mod ReadWeights

@@ -156,6 +156,18 @@ endless_ray n m c sign row target bound loaded t p h f clean column = (
     none i low = away n c (m + i) (replay.basic t) (λ k. cell t k c) (λ k below e. clean.cells k below (omega (arith, e)) c column)
         (λ e. omega (arith, e, column))
 
+-- where no line may leave, no cell of the column is positive
+pub never_leaves : (n c : ℕ) (t : Tableau) → can_leave n c t ≡ false → (k : ℕ) → k < n → cell t k c ≤ℚ whole (pos 0)
+never_leaves n c t h k low = no_more (lt_or_le_ℚ (whole (pos 0)) (cell t k c))
+  where
+    absent : (o : Option ℕ) → first_from (λ i. is_positive (cell t i c)) 0 n ≡ o → is_some o ≡ false → is_positive (cell t k c) ≡ false
+    absent None e z = subst (λ i. is_positive (cell t i c) ≡ false) (omega arith) (first_absent (λ i. is_positive (cell t i c)) 0 n e k low)
+    absent (Some i) e z = absurd (cc z)
+
+    no_more : (whole (pos 0) <ℚ cell t k c) ⊎ (cell t k c ≤ℚ whole (pos 0)) → cell t k c ≤ℚ whole (pos 0)
+    no_more (inl up) = absurd (cc (sym (sign_positive (cell t k c) up) ∙ absent (first_from (λ i. is_positive (cell t i c)) 0 n) refl h))
+    no_more (inr down) = down
+
 -- no number of the ray is negative, where no cell of the column is positive
 pub ray_nonneg : (n m c : ℕ) (t : Tableau) → can_leave n c t ≡ false → (j : ℕ) → minus_ray n c t j ≤ℚ whole (pos 0)
 ray_nonneg n m c t h j =
@@ -173,15 +185,7 @@ ray_nonneg n m c t h j =
         ∙ total-*ℚ n (neg_ℚ (whole (pos 1))) (λ k. cell t k c *ℚ unit (replay.basic t k) j)
         ∙ by_ring (total n (λ k. cell t k c *ℚ unit (replay.basic t k) j) ∷ []) (search reads depth 40) tt
 
-    absent : (o : Option ℕ) → first_from (λ i. is_positive (cell t i c)) 0 n ≡ o → is_some o ≡ false → (k : ℕ) → k < n → is_positive (cell t k c) ≡ false
-    absent None e z k low = subst (λ i. is_positive (cell t i c) ≡ false) (omega arith) (first_absent (λ i. is_positive (cell t i c)) 0 n e k low)
-    absent (Some i) e z k low = absurd (cc z)
-
-    no_more : (k : ℕ) → k < n → (whole (pos 0) <ℚ cell t k c) ⊎ (cell t k c ≤ℚ whole (pos 0)) → cell t k c ≤ℚ whole (pos 0)
-    no_more k low (inl up) = absurd (cc (sym (sign_positive (cell t k c) up) ∙ absent (first_from (λ i. is_positive (cell t i c)) 0 n) refl h k low))
-    no_more k low (inr down) = down
-
     lowers : (k : ℕ) → k < n → whole (pos 0) ≤ℚ neg_ℚ (cell t k c *ℚ unit (replay.basic t k) j)
     lowers k low =
-        by_le (cell t k c ∷ unit (replay.basic t k) j ∷ []) (gap (no_more k low (lt_or_le_ℚ (whole (pos 0)) (cell t k c))) · unit_nonneg (replay.basic t k) j)
+        by_le (cell t k c ∷ unit (replay.basic t k) j ∷ []) (gap (never_leaves n c t h k low) · unit_nonneg (replay.basic t k) j)
         (search reads depth 40) tt

@@ -12,17 +12,18 @@ use Rattle.pa_meaning.specs.Weights.{combined, row_at}
 use Rattle.pa_row.specs.Fractions.{AreOver, fraction_of, placed}
 use Rattle.pa_row.proofs.Turns.{row_at_read}
 use Rattle.pa_tableau.specs.Tableau.{Tableau, cell}
-use Rattle.pa_replay.specs.declared.«end».End.TheVariants.{Least}
+use Rattle.pa_replay.specs.declared.«end».End.TheVariants.{Least, Endless}
 use Rattle.pa_replay.specs.Problem.{Problem}
 use Rattle.pa_replay.specs.Readings.{value_read, weights_read}
 use Rattle.pa_replay.specs.Replay.{Ended, basic}
 use Rattle.pa_replay.proofs.Ended.{Known}
 use Rattle.pa_replay.proofs.Kept.{IsReached}
-use Rattle.pa_replay.proofs.LoadedStart.{row_bound, row_number, row_of}
+use Rattle.pa_replay.proofs.LoadedStart.{row_bound, row_number, row_of, sign_of, target_number}
 use Rattle.pa_replay.proofs.Numbers.{number_is}
 use Rattle.pa_replay.proofs.Solved.{IsLeast, IsSolved, least_of}
 use Rattle.pa_replay.proofs.Sums.{total, total_same, total_zeros}
 use Rattle.pa_replay.proofs.Theorems.{solution}
+use Rattle.pa_replay.proofs.Weighted.{least_weights}
 use Rattle.pa_replay.proofs.WeightSums.{AreApart, combined_bound, combined_sum, weights_positive, weights_sum}
 
 -- no two lines have one basic column, since it is 1 in its line and 0 in the others
@@ -48,6 +49,45 @@ row_past p j k all low past =
     (record { c = []; b = pos 0 }) low all in
     number_is (row_of p j).c k ∙ get_or_past (row_of p j).c k (pos 0) (omega (arith, long, past))
 
+-- Where the values of the basic columns combine the rows to the target in fractions, the weights that are read do so in whole numbers.
+weights_whole : (p : Problem) (t : Tableau) (q : ℤ) (ns : List ℤ) → AreApart (length p.target) t →
+    ((k : ℕ) → k < length p.target → total (length p.rows) (λ j. solution (length p.target) (length p.rows) t j *ℚ row_number p j k) ≡ target_number p k) →
+    All (λ (row : Row). length row.c ≡ length p.target) p.rows →
+    AreOver q (map fraction_of (weights_read (length p.target) (length p.rows) t)) ns →
+    SameNumbers (combined (placed (weights_read (length p.target) (length p.rows) t) ns) p.rows).c (times q p.target)
+weights_whole p t q ns apart makes columns over k = by_column (below_or_past k n)
+  where
+    n : ℕ
+    n = length p.target
+
+    m : ℕ
+    m = length p.rows
+
+    below_or_past : (k n : ℕ) → (k < n) ⊎ (n ≤ k)
+    below_or_past k n = search arith
+
+    in_rows : whole (number_at (combined (placed (weights_read n m t) ns) p.rows).c k) ≡ whole q *ℚ total m (λ j. solution n m t j *ℚ row_number p j k)
+    in_rows =
+        combined_sum q (weights_read n m t) ns p.rows k (weights_positive n m t) over
+        ∙ ap (λ s. whole q *ℚ s)
+        (weights_sum (λ j. whole (number_at (row_at p.rows j).c k)) n m t apart
+        ∙ total_same m (λ j. solution n m t j *ℚ whole (number_at (row_at p.rows j).c k)) (λ j. solution n m t j *ℚ row_number p j k)
+        (λ j low. ap (λ (r : Row). solution n m t j *ℚ whole (number_at r.c k)) (row_at_read p.rows j (record { c = []; b = pos 0 }) low)))
+
+    by_column : (k < n) ⊎ (n ≤ k) → number_at (combined (placed (weights_read n m t) ns) p.rows).c k ≡ number_at (times q p.target) k
+    by_column (inl low) =
+        whole_injective (in_rows ∙ ap (λ s. whole q *ℚ s) (makes k low) ∙ sym (whole-*ℤ q (number_at p.target k))
+        ∙ ap whole (sym (number_at-times q p.target k)))
+    by_column (inr past) =
+        let none : number_at p.target k ≡ pos 0 = number_is p.target k ∙ get_or_past p.target k (pos 0) past in
+        whole_injective (in_rows
+        ∙ ap (λ s. whole q *ℚ s)
+        (total_same m (λ j. solution n m t j *ℚ row_number p j k) (λ j. whole (pos 0))
+        (λ j low. ap (λ z. solution n m t j *ℚ whole z) (row_past p j k columns low past) ∙ by_ring (solution n m t j ∷ []) (search reads depth 40) tt)
+        ∙ total_zeros m)
+        ∙ ap (λ z. whole q *ℚ whole z) (sym none)
+        ∙ sym (whole-*ℤ q (number_at p.target k)) ∙ ap whole (sym (number_at-times q p.target k)))
+
 -- The weights of the least end: the rows times their weights have the target's coefficients and the value, times the denominator.
 pub least_whole : (p : Problem) (ended : Ended) (s : IsSolved p ended) (q : ℤ) (ns : List ℤ) → ended.answer ≡ Ok Least →
     All (λ (row : Row). length row.c ≡ length p.target) p.rows →
@@ -56,10 +96,13 @@ pub least_whole : (p : Problem) (ended : Ended) (s : IsSolved p ended) (q : ℤ)
     × (whole (combined (placed (weights_read (length p.target) (length p.rows) ended.table) ns) p.rows).b ≡ whole q *ℚ value_read (length p.target)
     (length p.rows) ended.table)
 least_whole p ended s q ns e columns over =
+    let n : ℕ = length p.target in
+    let m : ℕ = length p.rows in
+    let t : Tableau = ended.table in
     let known : Known n m s.start t (Ok Least) = subst (Known n m s.start t) e s.known in
     let apart : AreApart n t = reached_apart n m (n + m + 1) s.start t known.feasible.reached in
     let least : IsLeast p t = least_of p ended s e in (
-      λ k. by_column k apart least (below_or_past k n),
+      weights_whole p t q ns apart least.combined columns over,
       combined_bound q (weights_read n m t) ns p.rows (weights_positive n m t) over
           ∙ ap (λ s. whole q *ℚ s)
           (weights_sum (λ j. whole (row_at p.rows j).b) n m t apart
@@ -67,39 +110,16 @@ least_whole p ended s q ns e columns over =
           (λ j low. ap (λ (r : Row). solution n m t j *ℚ whole r.b) (row_at_read p.rows j (record { c = []; b = pos 0 }) low))
           ∙ least.costs),
     )
-  where
-    n : ℕ
-    n = length p.target
 
-    m : ℕ
-    m = length p.rows
-
-    t : Tableau
-    t = ended.table
-
-    below_or_past : (k n : ℕ) → (k < n) ⊎ (n ≤ k)
-    below_or_past k n = search arith
-
-    in_rows : (k : ℕ) → AreApart n t →
-        whole (number_at (combined (placed (weights_read n m t) ns) p.rows).c k) ≡ whole q *ℚ total m (λ j. solution n m t j *ℚ row_number p j k)
-    in_rows k apart =
-        combined_sum q (weights_read n m t) ns p.rows k (weights_positive n m t) over
-        ∙ ap (λ s. whole q *ℚ s)
-        (weights_sum (λ j. whole (number_at (row_at p.rows j).c k)) n m t apart
-        ∙ total_same m (λ j. solution n m t j *ℚ whole (number_at (row_at p.rows j).c k)) (λ j. solution n m t j *ℚ row_number p j k)
-        (λ j low. ap (λ (r : Row). solution n m t j *ℚ whole (number_at r.c k)) (row_at_read p.rows j (record { c = []; b = pos 0 }) low)))
-
-    by_column : (k : ℕ) → AreApart n t → IsLeast p t → (k < n) ⊎ (n ≤ k) →
-        number_at (combined (placed (weights_read n m t) ns) p.rows).c k ≡ number_at (times q p.target) k
-    by_column k apart least (inl low) =
-        whole_injective (in_rows k apart ∙ ap (λ s. whole q *ℚ s) (least.combined k low) ∙ sym (whole-*ℤ q (number_at p.target k))
-        ∙ ap whole (sym (number_at-times q p.target k)))
-    by_column k apart least (inr past) =
-        let none : number_at p.target k ≡ pos 0 = number_is p.target k ∙ get_or_past p.target k (pos 0) past in
-        whole_injective (in_rows k apart
-        ∙ ap (λ s. whole q *ℚ s)
-        (total_same m (λ j. solution n m t j *ℚ row_number p j k) (λ j. whole (pos 0))
-        (λ j low. ap (λ z. solution n m t j *ℚ whole z) (row_past p j k columns low past) ∙ by_ring (solution n m t j ∷ []) (search reads depth 40) tt)
-        ∙ total_zeros m)
-        ∙ ap (λ z. whole q *ℚ whole z) (sym none)
-        ∙ sym (whole-*ℤ q (number_at p.target k)) ∙ ap whole (sym (number_at-times q p.target k)))
+-- The last weights of the endless end have the target's coefficients too.
+pub last_whole : (p : Problem) (ended : Ended) (c : ℕ) (s : IsSolved p ended) (q : ℤ) (ns : List ℤ) → ended.answer ≡ Ok (Endless c) →
+    All (λ (row : Row). length row.c ≡ length p.target) p.rows →
+    AreOver q (map fraction_of (weights_read (length p.target) (length p.rows) ended.table)) ns →
+    SameNumbers (combined (placed (weights_read (length p.target) (length p.rows) ended.table) ns) p.rows).c (times q p.target)
+last_whole p ended c s q ns e columns over =
+    let n : ℕ = length p.target in
+    let m : ℕ = length p.rows in
+    let t : Tableau = ended.table in
+    let known : Known n m s.start t (Ok (Endless c)) = subst (Known n m s.start t) e s.known in
+    weights_whole p t q ns (reached_apart n m (n + m + 1) s.start t known.feasible.reached)
+    (least_weights n m (sign_of p) (row_number p) (target_number p) (row_bound p) s.start t s.holds s.units known.feasible known.clean).0 columns over
