@@ -18,18 +18,13 @@ use Rattle.pa_row.specs.Fractions.{AreWeights, IsFraction, WeightPart, fraction_
 use Rattle.pa_tableau.specs.Tableau.{Tableau, cell}
 use Rattle.pa_replay.specs.declared.«end».End.TheVariants.{Least, Endless}
 use Rattle.pa_replay.specs.Problem.{Problem}
-use Rattle.pa_replay.specs.Readings.{line_of, ray_read, weight_at, weights_read}
+use Rattle.pa_replay.specs.Readings.{IsAscending, line_of, ray_read, weight_at, weights_read}
 use Rattle.pa_replay.specs.Replay.{Ended, basic, can_leave, first_from}
 use Rattle.pa_replay.proofs.Ended.{Known}
 use Rattle.pa_replay.proofs.Never.{falls_at}
 use Rattle.pa_replay.proofs.Runs.{first_present}
 use Rattle.pa_replay.proofs.Solved.{IsSolved}
 use Rattle.pa_replay.proofs.Weighted.{never_leaves}
-
--- positive weights at ascending places from a on and below z
-abbrev pub IsAscending : ℕ → ℕ → List WeightPart → Type 0
-IsAscending a z [] = Unit {0}
-IsAscending a z (part ∷ parts) = (a ≤ part.0) × (part.0 < z) × (pos 0 <ℤ part.1) × IsAscending (part.0 + 1) z parts
 
 from_later : (a b z : ℕ) (parts : List WeightPart) → a ≤ b → IsAscending b z parts → IsAscending a z parts
 from_later a b z [] low h = tt

@@ -1,5 +1,5 @@
 -- What is read at the end of a run: in exact fractions, and then in whole numbers of at most 126 bits over a common denominator.
-use Rattle.std.specs.Prelude.{ℕ, ◌+◌, ◌==◌, ℤ, pos, List, [], ◌∷◌, map, flat_map, Bool, if◌then◌else◌, Option, Result, Ok}
+use Rattle.std.specs.Prelude.{◌<◌, ◌≤◌, ◌<ℤ◌, ℕ, ◌+◌, ◌==◌, ℤ, pos, List, [], ◌∷◌, map, flat_map, Bool, if◌then◌else◌, Option, Result, Ok}
 use Rattle.std.specs.List.{slice_index_or, range_with_len}
 use Rattle.pa_math.specs.Answers.{and_then, given}
 use Rattle.pa_math.specs.Rational.{ℚ, den, whole, ◌-ℚ◌, neg_ℚ}
@@ -39,14 +39,26 @@ weight_at j q = if is_zero q then [] else (j, q.num, den q) ∷ []
 abbrev pub line_of : ℕ → Tableau → ℕ → Option ℕ
 line_of n t j = first_from (λ k. basic t k == j) 0 n
 
--- the last weights: the values of the lines whose basic columns are rows', by place
-abbrev pub weights_read : ℕ → ℕ → Tableau → List WeightPart
-weights_read n m t = flat_map (λ j. given [] (line_of n t j) (λ k. weight_at j (cell t k (n + m)))) (range_with_len 0 m)
+-- the last weight of a row: the value of the line in which its column is basic
+abbrev pub last_at : ℕ → ℕ → Tableau → ℕ → List WeightPart
+last_at n m t j = given [] (line_of n t j) (λ k. weight_at j (cell t k (n + m)))
 
--- the ray of an endless column: 1 in the column, and minus the column's cells in the basic ones, by place
+-- the last weights, by place
+abbrev pub weights_read : ℕ → ℕ → Tableau → List WeightPart
+weights_read n m t = flat_map (last_at n m t) (range_with_len 0 m)
+
+-- what the ray of an endless column has at a place: 1 at the column, and minus the column's cell where a column is basic
+abbrev pub ray_at : ℕ → ℕ → Tableau → ℕ → List WeightPart
+ray_at n c t j = if j == c then weight_at j (whole (pos 1)) else given [] (line_of n t j) (λ k. weight_at j (neg_ℚ (cell t k c)))
+
+-- the ray, by place
 abbrev pub ray_read : ℕ → ℕ → ℕ → Tableau → List WeightPart
-ray_read n m c t =
-    flat_map (λ j. if j == c then weight_at j (whole (pos 1)) else given [] (line_of n t j) (λ k. weight_at j (neg_ℚ (cell t k c)))) (range_with_len 0 m)
+ray_read n m c t = flat_map (ray_at n c t) (range_with_len 0 m)
+
+-- positive weights at ascending places from a on and below z
+abbrev pub IsAscending : ℕ → ℕ → List WeightPart → Type 0
+IsAscending a z [] = Unit {0}
+IsAscending a z (part ∷ parts) = (a ≤ part.0) × (part.0 < z) × (pos 0 <ℤ part.1) × IsAscending (part.0 + 1) z parts
 
 -- ---- what is answered. `Wide` comes exactly where a number that is formed passes 126 bits.
 -- at the least end: the weights, the point and its value
@@ -60,10 +72,12 @@ least_answer n m t =
     and_then (weights_in (weights_read n m t))
     (λ weights. Ok (record { weights = weights; point = map numbers_in (point_read n m t); value = numbers_in (value_read n m t) }))
 
--- where no weights exist: each difference from 1 in the order of the lines, and then the direction in whole numbers
+-- where no weights exist: each difference from 1 in the order of the lines, by its sign, and then the direction in whole numbers
+abbrev pub difference_at : ℕ → ℕ → Tableau → ℕ → Result (ℤ × ℤ) Wide
+difference_at n m t k = and_then (difference_in 126 (whole (pos 1)) (cell t n (m + k))) (λ d. Ok (numbers_in (signed t k d)))
+
 abbrev pub differences_read : ℕ → ℕ → Tableau → Result (List (ℤ × ℤ)) Wide
-differences_read n m t =
-    each (λ i k. and_then (difference_in 126 (whole (pos 1)) (cell t n (m + k))) (λ d. Ok (numbers_in (signed t k d)))) 0 (range_with_len 0 n)
+differences_read n m t = each (λ i k. difference_at n m t k) 0 (range_with_len 0 n)
 
 abbrev pub direction_answer : ℕ → ℕ → Tableau → Result (List ℤ) Wide
 direction_answer n m t = and_then (differences_read n m t) direction_in
