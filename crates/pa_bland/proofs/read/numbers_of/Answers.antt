@@ -14,7 +14,8 @@ returns-clause-fraction g c =
     let low : to_z w128 (of_z w128 c.den.result) ≡ den (g.F.Fraction.value c.args.number) = to_z-of_z w128 c.den.result (search rules) ∙ c.den.ensures in
     subst (λ (f : ℤ × ℤ). IsFraction f) (sym (λ i. (top i, low i))) (record {
       reduced = g.met.F.Fraction.is_reduced c.args.number;
-      numerator = fits_widest g.F.Fraction.WIDTH 126 (g.F.Fraction.value c.args.number).num g.met.F.Fraction.greatest_width (g.met.F.Fraction.num_fits c.args.number);
+      numerator = fits_widest g.F.Fraction.WIDTH 126 (g.F.Fraction.value c.args.number).num g.met.F.Fraction.greatest_width
+          (g.met.F.Fraction.num_fits c.args.number);
       denominator = fits_widest g.F.Fraction.WIDTH 126 (den (g.F.Fraction.value c.args.number)) g.met.F.Fraction.greatest_width
           (g.met.F.Fraction.den_fits c.args.number);
     })
