@@ -1,14 +1,19 @@
 // What is read at the ends of a run, in whole numbers.
-ghost use Rattle.std.specs.Prelude.{◌≡◌, ◌<◌};
+ghost use Rattle.std.specs.Prelude.{◌≡◌, ◌≤◌, ◌<◌, Ok, length};
 ghost use Rattle.pa_math.specs.Answers.{IsAnswer, told_as};
 ghost use Rattle.pa_row.specs.Answers.{as_fault};
 ghost use Rattle.pa_replay.specs.Readings.{IsAscending, endless_answer, least_answer, ray_read, weights_read};
-ghost use Rattle.pa_bland.specs.Seen.{IsBegun};
+ghost use Rattle.pa_tableau.specs.Arithmetic.{at_width};
+ghost use Rattle.pa_tableau.specs.Work.{HasRoom};
+ghost use Rattle.pa_bland.specs.declared.answer.SolveError.TheVariants as SolveError;
+ghost use Rattle.pa_bland.specs.Answered.{IsReadable, answer_of, answer_read, as_error as as_error_of};
+ghost use Rattle.pa_bland.specs.Seen.{IsBegun, KeepsRoom};
 
-use crate::read::{last_weights, point, ray_weights, value};
+use crate::read::{direction, last_weights, point, ray_weights, value};
+use crate::{End, Problem, SolveFault, solve_in};
 use pa_frac::Fraction;
 use pa_row::{RowFault, Weights};
-use pa_tableau::Work;
+use pa_tableau::{WideAt, Work};
 use std::alloc::Global;
 use std::marker::Model;
 
@@ -50,6 +55,63 @@ impl Model for EndlessAnswer {
     ghost Value = { EndlessRead };
 
     ghost view = { λ a. record { ray = a.ray; last = a.last } };
+}
+
+/// What is read where no weights exist: a direction in which no row rises and the target does, in whole
+/// numbers without a common divisor.
+#[derive(Drop)]
+pub struct Direction {
+    /// The number of each column.
+    pub numbers: Vec<i128>,
+}
+
+impl Model for Direction {
+    ghost use Rattle.std.specs.Prelude.{List, ℤ};
+
+    ghost Value = { List ℤ };
+
+    ghost view = { λ d. d.numbers.items };
+}
+
+/// What a problem's answer is.
+#[derive(Drop)]
+pub enum Answer {
+    /// Weights of the least sum of bounds, and a point that shows that there is none below.
+    Least(LeastAnswer),
+    /// No weights combine the rows to the target.
+    NoWeights(Direction),
+    /// The sum of bounds falls without end, so no point meets the rows.
+    Endless(EndlessAnswer),
+}
+
+/// Where a number passed the width.
+#[derive(Clone, Copy, Debug, PartialEq, Eq)]
+pub enum Spot {
+    /// At a cell of the run.
+    Cell(WideAt),
+    /// At what is read at the end.
+    Read,
+}
+
+/// Why a problem has no answer.
+#[derive(Clone, Copy, Debug, PartialEq, Eq)]
+pub enum SolveError {
+    /// Memory ran out.
+    Memory,
+    /// As many pivots were made as may be, and another one was to come.
+    PivotLimit,
+    /// A number passed the width.
+    Wide(Spot),
+}
+
+// A fault of a reading, as one of the whole.
+fn as_error(fault: RowFault) -> SolveError
+    ensures { result ≡ as_error_of fault }
+{
+    match fault {
+        RowFault::Memory => SolveError::Memory,
+        RowFault::Wide => SolveError::Wide(Spot::Read),
+    }
 }
 
 /// Reads the least end: the weights, the point and the value.
@@ -95,4 +157,61 @@ pub(crate) fn endless<F: Fraction>(
     let ray = ray_weights(alloc, work, column, lines, rows)?;
     let last = last_weights(alloc, work, lines, rows)?;
     Ok(EndlessAnswer { ray, last })
+}
+
+// Reads the end of a run.
+fn read_end<F: Fraction>(
+    alloc: Global,
+    work: &Work<F>,
+    end: End,
+    lines: u32,
+    rows: u32,
+) -> Result<Answer, SolveError>
+    requires begun { IsBegun lines rows work.now }
+    requires ready { IsReadable lines rows end work.now.table }
+    ensures exact { IsAnswer SolveError.Memory (answer_read lines rows (Ok end) work.now.table) result }
+{
+    match end {
+        End::Least => match least(alloc, work, lines, rows) {
+            Ok(read) => Ok(Answer::Least(read)),
+            Err(fault) => Err(as_error(fault)),
+        },
+        End::NoWeights => match direction(alloc, work, lines, rows) {
+            Ok(numbers) => Ok(Answer::NoWeights(Direction { numbers })),
+            Err(fault) => Err(as_error(fault)),
+        },
+        End::Endless { column } => match endless(alloc, work, column, lines, rows) {
+            Ok(read) => Ok(Answer::Endless(read)),
+            Err(fault) => Err(as_error(fault)),
+        },
+    }
+}
+
+/// The answer to a problem, by a run over fractions of a type, and what is read at its end. The conditions
+/// are that the work has room and that `most` is at most 4,096.
+///
+/// `PivotLimit` and `Wide` with a cell come exactly where they come of the run (`solve_in`), `Wide` with
+/// `Read` exactly where a number that is read at the end passes 126 bits, and `Memory` where memory runs out.
+pub fn solve_answer<F: Fraction>(
+    alloc: Global,
+    work: &mut Work<F>,
+    problem: &Problem,
+    most: u32,
+) -> Result<Answer, SolveError>
+    requires room { HasRoom (length problem.now.target) (length problem.now.rows) work.old }
+    requires most { most ≤ 4096 }
+    ensures room { KeepsRoom work.old work.new }
+    ensures exact { IsAnswer SolveError.Memory (answer_of (at_width F.WIDTH) problem.now most) result }
+{
+    match solve_in(work, problem, most) {
+        Ok(end) => read_end(
+            alloc,
+            work,
+            end,
+            problem.target.len() as u32,
+            problem.rows.len() as u32,
+        ),
+        Err(SolveFault::PivotLimit) => Err(SolveError::PivotLimit),
+        Err(SolveFault::Wide(wide)) => Err(SolveError::Wide(Spot::Cell(wide))),
+    }
 }

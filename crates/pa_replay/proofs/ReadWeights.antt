@@ -142,6 +142,12 @@ last_ascending p ended c s e =
     subst (Known (length p.target) (length p.rows) s.start ended.table) e s.known in
     weights_ascending (length p.target) (length p.rows) ended.table known.feasible.values
 
+pub endless_inside : (p : Problem) (ended : Ended) (c : ℕ) → IsSolved p ended → ended.answer ≡ Ok (Endless c) → c < length p.rows
+endless_inside p ended c s e =
+    let known : Known (length p.target) (length p.rows) s.start ended.table (Ok (Endless c)) =
+    subst (Known (length p.target) (length p.rows) s.start ended.table) e s.known in
+    (falls_at (length p.target) (length p.rows) (length p.target + 1) c ended.table known.comes).0
+
 pub endless_ascending : (p : Problem) (ended : Ended) (c : ℕ) → IsSolved p ended → ended.answer ≡ Ok (Endless c) →
     IsAscending 0 (length p.rows) (ray_read (length p.target) (length p.rows) c ended.table)
 endless_ascending p ended c s e =
