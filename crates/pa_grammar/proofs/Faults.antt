@@ -2,7 +2,7 @@
 use Rattle.std.proofs.Common.{◌≡◌, ◌⊎◌, inl, inr, ⊎_elim, ℕ, suc, true, false, List, [], ◌∷◌, ◌++◌, take, Option, Some, None, Result, Ok, Err, refl, ap, ◌∙◌}
 use Rattle.std.proofs.Common.{subst}
 use Rattle.std.specs.Prelude.{slice_get, IfOk, IsErrOf}
-use Rattle.pa_math.specs.Answers.{given, needed, IsAnswer}
+use Rattle.pa_math.specs.Answers.{given, needed, IsAnswer, seen_as}
 use Rattle.pa_grammar.specs.declared.token.Token.{Token}
 use Rattle.pa_grammar.specs.declared.token.Placed.{Placed}
 use Rattle.pa_grammar.specs.declared.machine.Piece.{Piece}
@@ -12,7 +12,6 @@ use Rattle.pa_grammar.specs.declared.parse.ParseFault.TheVariants.{Memory, Synta
 use Rattle.pa_grammar.specs.Grammar.{Term, IsTerm, TermTokens, Begins, term_tokens}
 use Rattle.pa_grammar.specs.Machine.{Move, step, ending, reads, runs, match_move, term_start, term_pieces}
 use Rattle.pa_grammar.specs.Parsed.{parsed, behind, tokens_in, IsTermWith, IsSyntaxFault}
-use Rattle.pa_grammar.specs.Moves.{seen_as}
 use Rattle.pa_grammar.proofs.Complete.{before, moved_on, term_read}
 use Rattle.pa_grammar.proofs.Viable.{read_is_term, begins_is_taken, taken_begins}
 

@@ -1,7 +1,7 @@
 -- The answers of the loop over the tokens, for each language that the machine reads from a start.
 use Rattle.std.proofs.Common.{◌≡◌, inl, inr, ⊎_elim, ℕ, suc, true, List, [], ◌∷◌, take, Option, Some, None, Result, Ok, Err, refl, ap, subst}
 use Rattle.std.specs.Prelude.{IfOk, IsErrOf}
-use Rattle.pa_math.specs.Answers.{given, needed, IsAnswer}
+use Rattle.pa_math.specs.Answers.{given, needed, IsAnswer, seen_as}
 use Rattle.pa_grammar.specs.declared.token.Token.{Token}
 use Rattle.pa_grammar.specs.declared.token.Placed.{Placed}
 use Rattle.pa_grammar.specs.declared.machine.Piece.{Piece}
@@ -10,7 +10,6 @@ use Rattle.pa_grammar.specs.declared.parse.ParseFault.{ParseFault}
 use Rattle.pa_grammar.specs.declared.parse.ParseFault.TheVariants.{Memory, Syntax}
 use Rattle.pa_grammar.specs.Grammar.{Items, IsPlain, TermTokens, PlainTokens, Begins, tokens_of}
 use Rattle.pa_grammar.specs.Machine.{Move, step, ending, reads, runs, term_start, plain_start, term_pieces, pieces_of}
-use Rattle.pa_grammar.specs.Moves.{seen_as}
 use Rattle.pa_grammar.specs.Parsed.{parsed, behind, tokens_in, IsPlainWith, IsRefused, IsSyntaxFault}
 use Rattle.pa_grammar.proofs.Complete.{term_read, plain_read}
 use Rattle.pa_grammar.proofs.Faults.{parsed_ok, parsed_err}

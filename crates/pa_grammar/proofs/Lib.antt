@@ -36,4 +36,3 @@ pub mod Sizes
 pub mod Literals
 pub mod Answered
 pub mod Longest
-pub mod RowAnswers

@@ -1,5 +1,5 @@
 -- The rows of a comparison, one after another.
-use Rattle.std.proofs.Common.{◌≡◌, List, [], ◌∷◌, ◌++◌, map, All, Result, Ok, Err, refl, sym, ap, subst, ◌∙◌, arith}
+use Rattle.std.proofs.Common.{◌≡◌, List, [], ◌∷◌, ◌++◌, map, All, Result, Ok, Err, refl, sym, ap, subst, ◌∙◌, arith, append_assoc}
 use Rattle.std.specs.Prelude.{ℤ, pos, negsuc, zero, suc, neg_ℤ, ◌-ℤ◌}
 use Rattle.std.proofs.lemmas.Int.{ints, to_z-of_z}
 use mir.Syntax.{w128}
@@ -7,18 +7,22 @@ use mir.Val.{to_z, of_z, SFits}
 use Rattle.pa_ring.proofs.Lists.{All-append_right}
 use Rattle.pa_row.specs.Width.{Fits}
 use Rattle.std.proofs.lemmas.List.Elements.{All-nil, All-cons, All-head}
-use Rattle.pa_math.specs.Answers.{and_then}
+use Rattle.pa_math.specs.Answers.{IsAnswer, and_then, told_as}
+use Rattle.pa_math.proofs.Answers.{ok_same, told_as_ok}
 use Rattle.pa_math.specs.Rational.{ℚ}
 use Rattle.pa_math.proofs.Rationals.{reduced_form}
 use Rattle.pa_frac.specs.declared.wide.Wide.{Wide}
 use Rattle.pa_frac.specs.declared.wide126.Wide126.{Wide126}
 use Rattle.pa_frac.specs.Narrow.{num_fits, den_fits}
 use Rattle.pa_meaning.specs.Rows.{Row}
+use Rattle.pa_row.specs.declared.fault.RowFault.{RowFault}
+use Rattle.pa_row.specs.declared.fault.RowFault.TheVariants as fault
+use Rattle.pa_row.specs.Answers.{as_fault}
 use Rattle.pa_row.specs.Fractions.{IsFraction}
 use Rattle.pa_grammar.specs.declared.token.Sign.TheVariants.{Plus, Minus}
 use Rattle.pa_grammar.specs.Seen.{fraction}
 use Rattle.pa_grammar.specs.Values.{Pair, parts_of, row_with, row_of, rows_of_all, choices, joined, scaled_all, combined_all}
-use Rattle.pa_grammar.specs.Chosen.{chosen_rows}
+use Rattle.pa_grammar.specs.Chosen.{added_to, chosen, chosen_rows}
 use Rattle.pa_grammar.proofs.Steps.{then_then, same_then}
 
 -- the numbers of a fraction are in lowest terms, and 126 bits hold them
@@ -92,6 +96,32 @@ by_scaled up down rs ch (Ok more) is =
 pub chosen_is : (ps : List Pair) (v : List ℚ) → chosen_rows ps v ≡ and_then (choices ps v) rows_of_all
 chosen_is [] v = refl
 chosen_is (p ∷ ps) v = by_scaled (combined_all Plus v) (combined_all Minus v) (chosen_rows ps) (choices ps) (scaled_all p.weight p.inner) (chosen_is ps)
+
+added_behind : (before made : List Row) (first more : Result (List Row) Wide) → added_to before first ≡ Ok made
+    → added_to before (and_then first (λ rows. and_then more (λ others. Ok (rows ++ others)))) ≡ added_to made more
+added_behind before made (Ok rows) (Ok others) is = ap Ok (sym (append_assoc before rows others) ∙ ap (λ t. t ++ others) (ok_same (before ++ rows) made is))
+added_behind before made (Ok rows) (Err e) is = refl
+added_behind before made (Err e) more is = absurd (cc)
+
+-- the rows with plus, and then those with minus, are those of both choices
+pub choices_added : (before made : List Row) (p : Pair) (ps : List Pair) (v above below : List ℚ) → chosen Plus p.weight p.inner v ≡ Ok above
+    → added_to before (chosen_rows ps above) ≡ Ok made → chosen Minus p.weight p.inner v ≡ Ok below
+    → added_to before (chosen_rows (p ∷ ps) v) ≡ added_to made (chosen_rows ps below)
+choices_added before made p ps v above below plus rows minus =
+    ap (λ a. added_to before (and_then a (λ above. and_then (chosen_rows ps above) (λ first. and_then (chosen Minus p.weight p.inner v)
+    (λ below. and_then (chosen_rows ps below) (λ others. let out : Result (List Row) Wide = Ok (first ++ others) in out)))))) plus
+    ∙ ap (λ b. added_to before (and_then (chosen_rows ps above) (λ first. and_then b (λ below. and_then (chosen_rows ps below)
+    (λ others. let out : Result (List Row) Wide = Ok (first ++ others) in out))))) minus
+    ∙ added_behind before made (chosen_rows ps above) (chosen_rows ps below) rows
+
+-- and what is answered to the second is answered to both
+pub choices_answer : (before made : List Row) (p : Pair) (ps : List Pair) (v above below : List ℚ) (r : Result (List Row) RowFault)
+    → told_as as_fault (chosen Plus p.weight p.inner v) ≡ Ok above → told_as as_fault (added_to before (chosen_rows ps above)) ≡ Ok made
+    → told_as as_fault (chosen Minus p.weight p.inner v) ≡ Ok below → IsAnswer fault.Memory (told_as as_fault (added_to made (chosen_rows ps below))) r
+    → IsAnswer fault.Memory (told_as as_fault (added_to before (chosen_rows (p ∷ ps) v))) r
+choices_answer before made p ps v above below r plus rows minus answer =
+    subst (λ due. IsAnswer fault.Memory (told_as as_fault due) r)
+    (sym (choices_added before made p ps v above below (told_as_ok as_fault _ _ plus) (told_as_ok as_fault _ _ rows) (told_as_ok as_fault _ _ minus))) answer
 
 -- ---- the constant
 pub last_fits : (all ns : List ℤ) (n : ℤ) → All Fits all → all ≡ ns ++ (n ∷ []) → Fits n

@@ -4,9 +4,11 @@ use Rattle.std.proofs.Common.{ap₂, sym, ◌∙◌, subst}
 use Rattle.std.specs.Prelude.{IfOk, IsErrOf, slice_get}
 use Rattle.std.specs.List.{position_from}
 use Rattle.std.proofs.lemmas.Iterator.Adapters.{position_from-zero}
-use Rattle.pa_math.specs.Answers.{and_then, told_as, given, IsAnswer}
+use Rattle.pa_math.specs.Answers.{and_then, told_as, seen_as, given, IsAnswer}
 use Rattle.pa_frac.specs.declared.wide.Wide.{Wide}
 use Rattle.pa_meaning.specs.Rows.{Row}
+use Rattle.pa_row.specs.declared.fault.RowFault.TheVariants as row
+use Rattle.pa_row.specs.Answers.{as_fault}
 use Rattle.pa_grammar.specs.declared.fault.TermFault.{TermFault}
 use Rattle.pa_grammar.specs.declared.fault.TermFault.TheVariants as F
 use Rattle.pa_grammar.specs.declared.parse.ParseFault.{ParseFault}
@@ -19,7 +21,6 @@ use Rattle.pa_grammar.specs.Grammar.{Term, IsTerm, TermTokens, term_tokens}
 use Rattle.pa_grammar.specs.Lexer.{Scope, tokens_of_text}
 use Rattle.pa_grammar.specs.Machine.{term_start, term_pieces}
 use Rattle.pa_grammar.specs.Met.{AllFalse}
-use Rattle.pa_grammar.specs.Moves.{seen_as}
 use Rattle.pa_grammar.specs.Parsed.{parsed, tokens_in, IsTermWith, IsRefused}
 use Rattle.pa_grammar.specs.Read.{as_term, AreLiterals}
 use Rattle.pa_grammar.specs.Refused.{literal_fault, unknown_fault}
@@ -88,6 +89,12 @@ pub rows_found : (names : ℕ) (placed : List Placed) (pieces : List Piece) (row
     → rows_in names pieces ≡ Ok rows → rows_answer names placed pieces ≡ Ok rows
 rows_found names placed pieces rows none is =
     ap (λ o. rows_by (rows_in names pieces) o (λ pair. slice_get (openings true placed) pair)) none ∙ ap (told_as as_wide) is
+
+-- what is told as passing the width passes it
+pub wide_told : {A : Type 0} (due : Result A Wide) → (row.Wide ≡ row.Memory) ⊎ (told_as as_fault due ≡ Err row.Wide) → due ≡ Err (record {})
+wide_told (Ok value) (inl free) = absurd (cc)
+wide_told (Ok value) (inr is) = absurd (cc)
+wide_told (Err wide) told = refl
 
 pub rows_wide : (names : ℕ) (placed : List Placed) (pieces : List Piece) → first_true (piece_faults pieces) ≡ None
     → rows_in names pieces ≡ Err (record {}) → rows_answer names placed pieces ≡ Err F.Wide

@@ -1,10 +1,9 @@
 // The first bar pair whose weight makes a comparison not linear, and the rows where there is none.
 ghost use Rattle.std.specs.Prelude.{◌≡◌, true, Some, slice_get};
-ghost use Rattle.pa_math.specs.Answers.{IsAnswer};
+ghost use Rattle.pa_math.specs.Answers.{IsAnswer, seen_as};
 ghost use Rattle.pa_grammar.specs.Chosen.{relation_in};
 ghost use Rattle.pa_grammar.specs.Faults as spec;
 ghost use Rattle.pa_grammar.specs.Faults.{openings, first_true, piece_faults};
-ghost use Rattle.pa_grammar.specs.Moves.{seen_as};
 ghost use Rattle.pa_grammar.specs.Parsed.{IsTermWith, tokens_in};
 ghost use Rattle.pa_grammar.specs.Limits.{AllHaveValues};
 ghost use Rattle.pa_grammar.specs.Seen.{fraction};

@@ -1,14 +1,13 @@
 // Texts of plains.
 ghost use Rattle.std.specs.Prelude.{◌≡◌, ◌≤◌, ◌<◌, ℕ, length, map, OnOk, IfOk, IsErrOf, Ok};
 ghost use Rattle.std.specs.Str.{bytes_eq};
-ghost use Rattle.pa_math.specs.Answers.{IsAnswer};
+ghost use Rattle.pa_math.specs.Answers.{IsAnswer, seen_as, told_as};
 ghost use Rattle.pa_math.specs.Lists.{with_new};
 ghost use Rattle.pa_names.specs.Names.{most_names};
 ghost use Rattle.pa_ring.specs.Sums.{number_at as number_in};
-ghost use Rattle.pa_row.specs.Answers.{IsRowAnswer};
+ghost use Rattle.pa_row.specs.Answers.{as_fault};
 ghost use Rattle.pa_grammar.specs.Lexer.{most_text};
 ghost use Rattle.pa_grammar.specs.Limits.{AllHaveValues};
-ghost use Rattle.pa_grammar.specs.Moves.{seen_as};
 ghost use Rattle.pa_grammar.specs.Parsed.{tokens_in, IsRefused};
 ghost use Rattle.pa_grammar.specs.Plains as spec;
 ghost use Rattle.pa_grammar.specs.Plains.{Linear as LinearValue};
@@ -183,7 +182,7 @@ fn kept_of(alloc: Global, names: &Names, numbers: &[i128]) -> Result<(Names, Vec
 
 // The sum with the fractions of a vector, over the least common multiple of their denominators.
 fn linear_of(alloc: Global, names: &Names, vector: &[Wide126]) -> Result<Linear, RowFault>
-    ensures { IsRowAnswer (spec.linear_of names.now (map fraction vector.now)) result }
+    ensures { IsAnswer RowFault.Memory (told_as as_fault (spec.linear_of names.now (map fraction vector.now))) result }
 {
     let Ok(parts) = parts_of(alloc, vector) else {
         return Err(RowFault::Memory);
@@ -204,7 +203,7 @@ fn linear_of(alloc: Global, names: &Names, vector: &[Wide126]) -> Result<Linear,
 // The sum of a plain's pieces.
 fn pieces_linear(alloc: Global, names: &Names, pieces: &[Piece]) -> Result<Linear, RowFault>
     requires { AllHaveValues pieces.now }
-    ensures { IsRowAnswer (spec.pieces_linear names.now pieces.now) result }
+    ensures { IsAnswer RowFault.Memory (told_as as_fault (spec.pieces_linear names.now pieces.now)) result }
 {
     let vector = vector_of(alloc, names.len(), pieces)?;
     linear_of(alloc, names, &vector)

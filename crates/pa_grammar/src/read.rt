@@ -1,10 +1,9 @@
 // Texts of values, and the pieces of terms.
 ghost use Rattle.std.specs.Prelude.{◌≡◌, ◌≤◌, ℕ, length, IfOk, IsErrOf, Ok};
-ghost use Rattle.pa_math.specs.Answers.{IsAnswer};
+ghost use Rattle.pa_math.specs.Answers.{IsAnswer, seen_as};
 ghost use Rattle.pa_row.specs.Fractions.{IsFraction};
 ghost use Rattle.pa_grammar.specs.Lexer.{most_text};
 ghost use Rattle.pa_grammar.specs.Limits.{AllHaveValues, HasFactorValue};
-ghost use Rattle.pa_grammar.specs.Moves.{seen_as};
 ghost use Rattle.pa_grammar.specs.Parsed.{tokens_in, IsRefused, IsSyntaxFault, IsTermWith};
 ghost use Rattle.pa_grammar.specs.Read as spec;
 ghost use Rattle.pa_grammar.specs.Refused.{IsLiteralFault};

@@ -1,8 +1,8 @@
 // The rows of a term, from its sides.
 ghost use Rattle.std.specs.Prelude.{◌≡◌, ◌++◌, [], map, All, IfOk};
+ghost use Rattle.pa_math.specs.Answers.{IsAnswer, seen_as, told_as};
 ghost use Rattle.pa_meaning.specs.Rows.{primitive};
-ghost use Rattle.pa_row.specs.Answers.{IsRowAnswer, seen_as};
-ghost use Rattle.pa_row.specs.Fractions.{IsFraction, point_in};
+ghost use Rattle.pa_row.specs.Answers.{as_fault};
 ghost use Rattle.pa_row.specs.Width.{Fits};
 ghost use Rattle.pa_grammar.specs.Chosen.{added_to, chosen as chosen_in, chosen_rows, chain_of, compared, gives, related_rows, rows_in};
 ghost use Rattle.pa_grammar.specs.Limits.{AllHaveValues};
@@ -15,7 +15,7 @@ use crate::machine::Piece;
 use crate::sums::{Pair, Side, sides_of};
 use crate::token::{Relation, Sign};
 use pa_frac::{Fraction, Wide126};
-use pa_row::{Point, Row, RowFault, point_of};
+use pa_row::{Row, RowFault, point_of};
 use std::alloc::{AllocError, Global};
 
 // A fraction's numerator and denominator.
@@ -50,23 +50,14 @@ fn row_with(numbers: Vec<i128>) -> Row
     row
 }
 
-// Fractions over one denominator.
-#[tactic(auto, using(crate::proofs::RowAnswers::row_answer))]
-fn over_one(alloc: Global, parts: &[(i128, i128)]) -> Result<Point, RowFault>
-    requires { All IsFraction parts.now }
-    ensures { IsRowAnswer (point_in parts.now) result }
-{
-    point_of(alloc, parts)
-}
-
 // The row that says that a vector is at most 0.
 fn row_of(alloc: Global, vector: &[Wide126]) -> Result<Row, RowFault>
-    ensures { IsRowAnswer (spec.row_of (map fraction_of vector.now)) result }
+    ensures { IsAnswer RowFault.Memory (told_as as_fault (spec.row_of (map fraction_of vector.now))) result }
 {
     let Ok(parts) = parts_of(alloc, vector) else {
         return Err(RowFault::Memory);
     };
-    let point = over_one(alloc, &parts)?;
+    let point = point_of(alloc, &parts)?;
     Ok(row_with(point.p))
 }
 
@@ -78,7 +69,7 @@ fn chosen(
     weight: Wide126,
     inner: &[Wide126],
 ) -> Result<Vec<Wide126>, RowFault>
-    ensures { IsRowAnswer (chosen_in sign (fraction_of weight) (map fraction_of inner.now) (map fraction_of vector.now)) (seen_as (λ v. map fraction_of v.items) result) }
+    ensures { IsAnswer RowFault.Memory (told_as as_fault (chosen_in sign (fraction_of weight) (map fraction_of inner.now) (map fraction_of vector.now))) (seen_as (λ v. map fraction_of v.items) result) }
 {
     let Ok(mut sum) = Vec::from_slice(alloc, vector) else {
         return Err(RowFault::Memory);
@@ -91,7 +82,7 @@ fn chosen(
 
 // Puts the vector's row behind the others.
 fn push_row(alloc: Global, rows: &mut Vec<Row>, vector: &[Wide126]) -> Result<(), RowFault>
-    ensures { IsRowAnswer (added_to rows.old.items (chosen_rows [] (map fraction_of vector.now))) (gives rows.new.items result) }
+    ensures { IsAnswer RowFault.Memory (told_as as_fault (added_to rows.old.items (chosen_rows [] (map fraction_of vector.now)))) (gives rows.new.items result) }
 {
     let row = row_of(alloc, vector)?;
     match rows.push(row) {
@@ -108,7 +99,7 @@ fn push_turned(
     vector: &[Wide126],
     pairs: &[Pair],
 ) -> Result<(), RowFault>
-    ensures { IsRowAnswer (added_to rows.old.items (chosen_rows (map spec.turned (map seen_pair pairs.now)) (map fraction_of vector.now))) (gives rows.new.items result) }
+    ensures { IsAnswer RowFault.Memory (told_as as_fault (added_to rows.old.items (chosen_rows (map spec.turned (map seen_pair pairs.now)) (map fraction_of vector.now)))) (gives rows.new.items result) }
 {
     let [pair, rest @ ..] = pairs else {
         return push_row(alloc, rows, vector);
@@ -129,7 +120,7 @@ fn push_choices(
     left: &[Pair],
     right: &[Pair],
 ) -> Result<(), RowFault>
-    ensures { IsRowAnswer (added_to rows.old.items (chosen_rows (map seen_pair left.now ++ map spec.turned (map seen_pair right.now)) (map fraction_of vector.now))) (gives rows.new.items result) }
+    ensures { IsAnswer RowFault.Memory (told_as as_fault (added_to rows.old.items (chosen_rows (map seen_pair left.now ++ map spec.turned (map seen_pair right.now)) (map fraction_of vector.now)))) (gives rows.new.items result) }
 {
     let [pair, rest @ ..] = left else {
         return push_turned(alloc, rows, vector, right);
@@ -142,7 +133,7 @@ fn push_choices(
 
 // The columns of one side less those of the other.
 fn difference(alloc: Global, left: &[Wide126], right: &[Wide126]) -> Result<Vec<Wide126>, RowFault>
-    ensures { IsRowAnswer (spec.combined_all Sign.Minus (map fraction_of left.now) (map fraction_of right.now)) (seen_as (λ v. map fraction_of v.items) result) }
+    ensures { IsAnswer RowFault.Memory (told_as as_fault (spec.combined_all Sign.Minus (map fraction_of left.now) (map fraction_of right.now))) (seen_as (λ v. map fraction_of v.items) result) }
 {
     let Ok(mut vector) = Vec::from_slice(alloc, left) else {
         return Err(RowFault::Memory);
@@ -160,7 +151,7 @@ fn push_comparison(
     left: &Side,
     right: &Side,
 ) -> Result<(), RowFault>
-    ensures { IsRowAnswer (added_to rows.old.items (compared (seen_side left.now) (seen_side right.now))) (gives rows.new.items result) }
+    ensures { IsAnswer RowFault.Memory (told_as as_fault (added_to rows.old.items (compared (seen_side left.now) (seen_side right.now)))) (gives rows.new.items result) }
 {
     let vector = difference(alloc, &left.vector, &right.vector)?;
     push_choices(alloc, rows, &vector, &left.pairs, &right.pairs)
@@ -174,7 +165,7 @@ fn push_relation(
     left: &Side,
     right: &Side,
 ) -> Result<(), RowFault>
-    ensures { IsRowAnswer (added_to rows.old.items (related_rows relation (seen_side left.now) (seen_side right.now))) (gives rows.new.items result) }
+    ensures { IsAnswer RowFault.Memory (told_as as_fault (added_to rows.old.items (related_rows relation (seen_side left.now) (seen_side right.now)))) (gives rows.new.items result) }
 {
     match relation {
         Relation::AtMost => push_comparison(alloc, rows, left, right),
@@ -188,7 +179,7 @@ fn push_relation(
 
 // The rows of each side against the next one.
 fn chain_rows(alloc: Global, relation: Relation, sides: &[Side]) -> Result<Vec<Row>, RowFault>
-    ensures { IsRowAnswer (chain_of relation (map seen_side sides.now)) (seen_as (λ v. v.items) result) }
+    ensures { IsAnswer RowFault.Memory (told_as as_fault (chain_of relation (map seen_side sides.now))) (seen_as (λ v. v.items) result) }
 {
     let mut rows = Vec::new(alloc);
     let [first, others @ ..] = sides else {
@@ -211,7 +202,7 @@ pub(crate) fn rows_in_pieces(
     pieces: &[Piece],
 ) -> Result<Vec<Row>, RowFault>
     requires { AllHaveValues pieces.now }
-    ensures { IsRowAnswer (rows_in names pieces.now) (seen_as (λ v. v.items) result) }
+    ensures { IsAnswer RowFault.Memory (told_as as_fault (rows_in names pieces.now)) (seen_as (λ v. v.items) result) }
 {
     let sides = sides_of(alloc, names, pieces)?;
     chain_rows(alloc, relation_of(pieces), &sides)

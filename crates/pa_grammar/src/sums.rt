@@ -1,7 +1,7 @@
 // The sides of a term, from its pieces.
 ghost use Rattle.std.specs.Prelude.{◌≡◌, ◌∷◌, map, Ok};
-ghost use Rattle.pa_math.specs.Answers.{and_then};
-ghost use Rattle.pa_row.specs.Answers.{IsRowAnswer, seen_as};
+ghost use Rattle.pa_math.specs.Answers.{IsAnswer, and_then, seen_as, told_as};
+ghost use Rattle.pa_row.specs.Answers.{as_fault};
 ghost use Rattle.pa_grammar.specs.Seen.{fraction, seen_side, seen_sum};
 ghost use Rattle.pa_grammar.specs.Limits.{HasValue, AllHaveValues};
 ghost use Rattle.pa_grammar.specs.Pieces as spec;
@@ -48,7 +48,7 @@ struct Sum {
 
 // A bracket or a bar pair opens: the side in hand waits.
 fn opened(sum: Sum, inner: Side, sign: Sign, scale: Wide126) -> Result<Sum, RowFault>
-    ensures { IsRowAnswer (Ok (spec.sum_with (seen_side inner) (record { side = seen_side sum.side; sign = sign; scale = fraction scale } ∷ (seen_sum sum).frames) (seen_sum sum).sides)) (seen_as seen_sum result) }
+    ensures { IsAnswer RowFault.Memory (Ok (spec.sum_with (seen_side inner) (record { side = seen_side sum.side; sign = sign; scale = fraction scale } ∷ (seen_sum sum).frames) (seen_sum sum).sides)) (seen_as seen_sum result) }
 {
     let Sum {
         side,
@@ -67,7 +67,7 @@ fn opened(sum: Sum, inner: Side, sign: Sign, scale: Wide126) -> Result<Sum, RowF
 
 // A bracket closes.
 fn closed(sum: Sum) -> Result<Sum, RowFault>
-    ensures { IsRowAnswer (spec.closed_in (seen_side sum.side) (seen_sum sum).frames (seen_sum sum).sides) (seen_as seen_sum result) }
+    ensures { IsAnswer RowFault.Memory (told_as as_fault (spec.closed_in (seen_side sum.side) (seen_sum sum).frames (seen_sum sum).sides)) (seen_as seen_sum result) }
 {
     let Sum {
         side,
@@ -94,7 +94,7 @@ fn closed(sum: Sum) -> Result<Sum, RowFault>
 
 // A bar pair closes: it is kept aside.
 fn bar_closed(sum: Sum) -> Result<Sum, RowFault>
-    ensures { IsRowAnswer (spec.bar_closed_in (seen_side sum.side) (seen_sum sum).frames (seen_sum sum).sides) (seen_as seen_sum result) }
+    ensures { IsAnswer RowFault.Memory (told_as as_fault (spec.bar_closed_in (seen_side sum.side) (seen_sum sum).frames (seen_sum sum).sides)) (seen_as seen_sum result) }
 {
     let Sum {
         side,
@@ -125,7 +125,7 @@ fn bar_closed(sum: Sum) -> Result<Sum, RowFault>
 
 // A relation: the side in hand is whole.
 fn related(sum: Sum, next: Side) -> Result<Sum, RowFault>
-    ensures { IsRowAnswer (Ok (spec.sum_with (seen_side next) (seen_sum sum).frames (spec.all_sides (seen_sum sum)))) (seen_as seen_sum result) }
+    ensures { IsAnswer RowFault.Memory (Ok (spec.sum_with (seen_side next) (seen_sum sum).frames (spec.all_sides (seen_sum sum)))) (seen_as seen_sum result) }
 {
     let Sum {
         side,
@@ -144,7 +144,7 @@ fn related(sum: Sum, next: Side) -> Result<Sum, RowFault>
 
 // A side without items, over so many names.
 fn empty_side(alloc: Global, names: u32) -> Result<Side, RowFault>
-    ensures { IsRowAnswer (Ok (spec.empty_side names)) (seen_as seen_side result) }
+    ensures { IsAnswer RowFault.Memory (Ok (spec.empty_side names)) (seen_as seen_side result) }
 {
     match Vec::from_elem(alloc, zero(), names as usize + 1) {
         Ok(vector) => Ok(Side {
@@ -157,9 +157,9 @@ fn empty_side(alloc: Global, names: u32) -> Result<Side, RowFault>
 
 // An item without a bracket changes one column of the side in hand.
 fn changed(sum: Sum, place: usize, sign: Sign, amount: Wide126) -> Result<Sum, RowFault>
-    ensures { IsRowAnswer
-        (and_then (changed_at place (λ q. combined sign q (fraction amount)) (seen_side sum.side).vector)
-        (λ v. Ok (spec.sum_with (with_vector (seen_side sum.side) v) (seen_sum sum).frames (seen_sum sum).sides)))
+    ensures { IsAnswer RowFault.Memory
+        (told_as as_fault (and_then (changed_at place (λ q. combined sign q (fraction amount)) (seen_side sum.side).vector)
+        (λ v. Ok (spec.sum_with (with_vector (seen_side sum.side) v) (seen_sum sum).frames (seen_sum sum).sides))))
         (seen_as seen_sum result) }
 {
     let mut sum = sum;
@@ -172,7 +172,7 @@ fn changed(sum: Sum, place: usize, sign: Sign, amount: Wide126) -> Result<Sum, R
 // The next piece is taken in.
 fn piece_in(alloc: Global, names: u32, sum: Sum, piece: Piece) -> Result<Sum, RowFault>
     requires { HasValue piece }
-    ensures { IsRowAnswer (spec.piece_in names piece (seen_side sum.side) (seen_sum sum).frames (seen_sum sum).sides) (seen_as seen_sum result) }
+    ensures { IsAnswer RowFault.Memory (told_as as_fault (spec.piece_in names piece (seen_side sum.side) (seen_sum sum).frames (seen_sum sum).sides)) (seen_as seen_sum result) }
 {
     match piece {
         Piece::Constant(sign, factor) => changed(sum, names as usize, sign, factor_of(factor)),
@@ -191,7 +191,7 @@ fn piece_in(alloc: Global, names: u32, sum: Sum, piece: Piece) -> Result<Sum, Ro
 
 // Nothing is read yet.
 fn nothing(alloc: Global, names: u32) -> Result<Sum, RowFault>
-    ensures { IsRowAnswer (Ok (spec.nothing names)) (seen_as seen_sum result) }
+    ensures { IsAnswer RowFault.Memory (Ok (spec.nothing names)) (seen_as seen_sum result) }
 {
     Ok(Sum {
         side: empty_side(alloc, names)?,
@@ -203,7 +203,7 @@ fn nothing(alloc: Global, names: u32) -> Result<Sum, RowFault>
 // The sum of pieces.
 fn summed(alloc: Global, names: u32, pieces: &[Piece]) -> Result<Sum, RowFault>
     requires { AllHaveValues pieces.now }
-    ensures { IsRowAnswer (spec.summed names pieces.now (spec.nothing names)) (seen_as seen_sum result) }
+    ensures { IsAnswer RowFault.Memory (told_as as_fault (spec.summed names pieces.now (spec.nothing names))) (seen_as seen_sum result) }
 {
     let mut sum = nothing(alloc, names)?;
     for piece in pieces {
@@ -219,7 +219,7 @@ pub(crate) fn vector_of(
     pieces: &[Piece],
 ) -> Result<Vec<Wide126>, RowFault>
     requires { AllHaveValues pieces.now }
-    ensures { IsRowAnswer (spec.vector_in names pieces.now) (seen_as (λ v. map fraction v.items) result) }
+    ensures { IsAnswer RowFault.Memory (told_as as_fault (spec.vector_in names pieces.now)) (seen_as (λ v. map fraction v.items) result) }
 {
     let sum = summed(alloc, names, pieces)?;
     Ok(sum.side.vector)
@@ -230,7 +230,7 @@ pub(crate) fn vector_of(
 /// `Wide` says that a number passes 126 bits.
 pub fn sides_of(alloc: Global, names: u32, pieces: &[Piece]) -> Result<Vec<Side>, RowFault>
     requires { AllHaveValues pieces.now }
-    ensures { IsRowAnswer (spec.sides_in names pieces.now) (seen_as (λ v. map seen_side v.items) result) }
+    ensures { IsAnswer RowFault.Memory (told_as as_fault (spec.sides_in names pieces.now)) (seen_as (λ v. map seen_side v.items) result) }
 {
     let sum = summed(alloc, names, pieces)?;
     let mut sides = sum.sides;

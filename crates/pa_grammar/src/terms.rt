@@ -1,9 +1,8 @@
 // Texts of terms.
 ghost use Rattle.std.specs.Prelude.{◌≡◌, ◌≤◌, ℕ, List, length, All, IfOk, IsErrOf, Ok};
-ghost use Rattle.pa_math.specs.Answers.{IsAnswer};
+ghost use Rattle.pa_math.specs.Answers.{IsAnswer, seen_as};
 ghost use Rattle.pa_meaning.specs.Rows.{Row as RowValue};
 ghost use Rattle.pa_grammar.specs.Lexer.{most_text, plain_scope};
-ghost use Rattle.pa_grammar.specs.Moves.{seen_as};
 ghost use Rattle.pa_grammar.specs.Parsed.{IsRefused};
 ghost use Rattle.pa_grammar.specs.Scopes.{scope_with};
 ghost use Rattle.pa_grammar.specs.Sized.{AreFixed};

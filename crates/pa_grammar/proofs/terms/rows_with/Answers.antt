@@ -1,9 +1,8 @@
 -- The pieces are those of the text's tokens, whose numbers and constants 126 bits hold; so their rows are the text's.
 use Rattle.std.proofs.Common.{refl, sym, subst, ◌∙◌}
-use Rattle.pa_math.specs.Answers.{IsAnswer}
+use Rattle.pa_math.specs.Answers.{IsAnswer, seen_as}
 use Rattle.pa_grammar.specs.declared.fault.TermFault.TheVariants as F
 use Rattle.pa_grammar.specs.Limits.{AllHaveValues}
-use Rattle.pa_grammar.specs.Moves.{seen_as}
 use Rattle.pa_grammar.specs.Parsed.{tokens_in}
 use Rattle.pa_grammar.specs.Scopes.{scope_with}
 use Rattle.pa_grammar.specs.Sized.{AreSized}
