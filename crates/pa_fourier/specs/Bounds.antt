@@ -1,4 +1,4 @@
--- The bounds of rows, as fractions that are made before any comparison.
+-- The bounds of rows, as fractions that are made before any comparison. Only what private functions ensure is said with it.
 use Rattle.std.specs.Prelude.{◌≡◌, ℕ, ◌<◌, List, length, pos, nat_eq, nat_lt, get_or, Bool, false, if◌then◌else◌, Result, Ok}
 use Rattle.pa_math.specs.Answers.{and_then}
 use Rattle.pa_math.specs.Rational.{ℚ, over, whole}

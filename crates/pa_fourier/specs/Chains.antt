@@ -1,4 +1,4 @@
--- The places of a group, one behind the other.
+-- The places of a group, one behind the other. Only what private functions ensure is said with it.
 use Rattle.std.specs.Prelude.{◌≡◌, ◌<◌, ◌≤◌, ◌+◌, ℕ, List, length, nat_eq, get_or, false}
 
 -- the least place from `from` on that has this number, or the end of the list where there is none

@@ -1,4 +1,4 @@
--- Parallel rows by numbers.
+-- Parallel rows by numbers. Only what private functions ensure is said with it.
 use Rattle.std.specs.Prelude.{◌≡◌, ℕ, ◌<◌, List, length, pos, nat_eq, get_or}
 use Rattle.pa_meaning.specs.Rows.{Row, row_at, primitive}
 use Rattle.pa_witness.specs.Thinning.{are_parallel}
