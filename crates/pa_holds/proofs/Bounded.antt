@@ -11,7 +11,7 @@ use Rattle.pa_ring.proofs.Integers.{gap, gap_same, ◌·◌, ◌∔◌, <ℤ-≤
 use Rattle.pa_ring.proofs.IntegerTactics.{by_le, by_lt, by_ring, reads}
 use Rattle.pa_ring.proofs.Lists.{All-append_left, All-append_right}
 use Rattle.pa_ring.proofs.Sums.{dot_same, dot-times}
-use Rattle.pa_math.proofs.Unions.{AreAmong}
+use Rattle.pa_math.specs.Lists.{AreAmong}
 use Rattle.pa_meaning.specs.Rows.{Row, Point, Meets, MeetsAll}
 use Rattle.pa_meaning.specs.Weights.{Weights, combined}
 use Rattle.pa_meaning.specs.Contracts.{Name, Contract, ports, Behaviour, point_over, behaviour_of, coefficient_at}

@@ -4,7 +4,8 @@ use Rattle.std.proofs.lemmas.List.Elements.{All-append}
 use Rattle.std.specs.List.{IsDistinct, AllZip}
 use Rattle.std.specs.Str.{bytes_eq}
 use Rattle.pa_ring.proofs.Lists.{All-append_left, All-append_right}
-use Rattle.pa_math.proofs.Unions.{AreApart, IsDistinct-left}
+use Rattle.pa_math.specs.Lists.{AreApart}
+use Rattle.pa_math.proofs.Unions.{IsDistinct-left}
 use Rattle.pa_meaning.specs.Rows.{Row, Meets, MeetsAll}
 use Rattle.pa_meaning.specs.Contracts.{Name, Contract, ports, Behaviour, point_over, MeetsAssumptions, MeetsGuarantees, Keeps}
 use Rattle.pa_meaning.specs.Composition.{assumptions_over, guarantees_over}

@@ -11,7 +11,8 @@ use Rattle.std.specs.List.{list_all, IsDistinct}
 use Rattle.std.specs.Str.{bytes_eq}
 use Rattle.pa_ring.specs.Choices.{SameElements}
 use Rattle.pa_math.specs.Answers.{given}
-use Rattle.pa_math.proofs.Unions.{AreApart, AreAmong, AreApart-flip, All-implied, find-none, distinct-nil}
+use Rattle.pa_math.specs.Lists.{AreApart, AreAmong}
+use Rattle.pa_math.proofs.Unions.{AreApart-flip, All-implied, find-none, distinct-nil}
 use Rattle.pa_meaning.specs.Contracts.{Name, Contract, ports}
 use Rattle.pa_meaning.specs.Composition.{is_among, all_outputs, names_of}
 use Rattle.pa_meaning.specs.Quotient.{quotient_names}

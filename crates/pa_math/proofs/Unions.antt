@@ -5,7 +5,7 @@ use Rattle.std.proofs.lemmas.List.Folds.{list_any-append}
 use Rattle.std.proofs.lemmas.Map.Keys.{IsDistinct-head, IsDistinct-tail, IsDistinct-cons, IsDistinct-push}
 use Rattle.std.specs.Cmp.{IsEquivalence}
 use Rattle.std.specs.List.{list_any, find, IsDistinct, AllByRecursion}
-use Rattle.pa_math.specs.Lists.{with_new, union}
+use Rattle.pa_math.specs.Lists.{with_new, union, AreApart, AreAmong}
 
 module _ {A : Type 0} where
   -- no element passes a test that each fails
@@ -101,15 +101,7 @@ module _ {A : Type 0} where
       by false e h rest = (e, rest h)
 
   module _ (same : A → A → Bool) where
-    -- no element of the first list is in the second
-    abbrev pub AreApart : List A → List A → Type 0
-    AreApart xs ys = AllByRecursion (λ x. list_any (same x) ys ≡ false) xs
-
-    -- each element of the first list is in the second
-    abbrev pub AreAmong : List A → List A → Type 0
-    AreAmong xs ys = AllByRecursion (λ x. list_any (same x) ys ≡ true) xs
-
-    pub AreApart-flip : IsEquivalence same → (xs ys : List A) → AreApart xs ys → AreApart ys xs
+    pub AreApart-flip : IsEquivalence same → (xs ys : List A) → AreApart same xs ys → AreApart same ys xs
     AreApart-flip laws xs [] h = tt
     AreApart-flip laws xs (y ∷ ys) h = (
       list_any-none (same y) xs
@@ -119,7 +111,7 @@ module _ {A : Type 0} where
     )
 
     -- a list of different elements, from two, and back
-    pub IsDistinct-both : (xs ys : List A) → IsDistinct same xs → IsDistinct same ys → AreApart xs ys → IsDistinct same (xs ++ ys)
+    pub IsDistinct-both : (xs ys : List A) → IsDistinct same xs → IsDistinct same ys → AreApart same xs ys → IsDistinct same (xs ++ ys)
     IsDistinct-both [] ys d e h = e
     IsDistinct-both (x ∷ xs) ys d e h =
         IsDistinct-cons same x (xs ++ ys) (All-both _ xs ys (IsDistinct-head same x xs d) (none-list_any (same x) ys h.0))
@@ -134,7 +126,7 @@ module _ {A : Type 0} where
     IsDistinct-right [] ys d = d
     IsDistinct-right (x ∷ xs) ys d = IsDistinct-right xs ys (IsDistinct-tail same x (xs ++ ys) d)
 
-    pub IsDistinct-apart : (xs ys : List A) → IsDistinct same (xs ++ ys) → AreApart xs ys
+    pub IsDistinct-apart : (xs ys : List A) → IsDistinct same (xs ++ ys) → AreApart same xs ys
     IsDistinct-apart [] ys d = tt
     IsDistinct-apart (x ∷ xs) ys d =
         (list_any-none (same x) ys (All-parts _ xs ys (IsDistinct-head same x (xs ++ ys) d)).1, IsDistinct-apart xs ys (IsDistinct-tail same x (xs ++ ys) d))
@@ -149,7 +141,7 @@ module _ {A : Type 0} where
         by false = list_any-left p xs (y ∷ []) h
 
     -- and what the other has is there
-    pub AreAmong-union : ((x : A) → same x x ≡ true) → (xs ys : List A) → AreAmong ys (union same xs ys)
+    pub AreAmong-union : ((x : A) → same x x ≡ true) → (xs ys : List A) → AreAmong same ys (union same xs ys)
     AreAmong-union itself xs [] = tt
     AreAmong-union itself xs (y ∷ ys) =
         (list_any-union (same y) (with_new same xs y) ys (by (list_any (same y) xs) refl), AreAmong-union itself (with_new same xs y) ys)
@@ -159,7 +151,7 @@ module _ {A : Type 0} where
         by false e = list_any-right (same y) xs (y ∷ []) (ap (λ b. b || false) (itself y))
 
     -- each element of a list is in it
-    pub AreAmong-itself : ((x : A) → same x x ≡ true) → (xs : List A) → AreAmong xs xs
+    pub AreAmong-itself : ((x : A) → same x x ≡ true) → (xs : List A) → AreAmong same xs xs
     AreAmong-itself itself [] = tt
     AreAmong-itself itself (x ∷ xs) = (
       ap (λ b. b || list_any (same x) xs) (itself x),

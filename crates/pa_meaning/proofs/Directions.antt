@@ -14,7 +14,8 @@ use Rattle.pa_ring.proofs.Integers.{gap, ◌·◌, ◌∔◌, ◌⊙◌}
 use Rattle.pa_ring.proofs.IntegerTactics.{by_le, by_ring, reads}
 use Rattle.pa_ring.proofs.Lists.{All-from_contains, All-from_flat_map, All-from_map, All-append_left, All-append_right}
 use Rattle.pa_ring.proofs.Sums.{dot-sum_of, dot-times, dot_same}
-use Rattle.pa_math.proofs.Unions.{AreAmong, AreApart, IsDistinct-apart, IsDistinct-left, All-parts}
+use Rattle.pa_math.specs.Lists.{AreAmong, AreApart}
+use Rattle.pa_math.proofs.Unions.{IsDistinct-apart, IsDistinct-left, All-parts}
 use Rattle.pa_meaning.specs.Rows.{Row, row_at}
 use Rattle.pa_meaning.specs.Weights.{Weights, combined, NoneNegative}
 use Rattle.pa_meaning.specs.Contracts.{Name, Contract, ports, Behaviour, Extends, coefficient_at, over_names, MeetsGuarantees}

@@ -13,7 +13,8 @@ use Rattle.pa_ring.proofs.Integers.{gap, gap_lt, ◌·◌, ◌∔◌, ◌⊕◌,
 use Rattle.pa_ring.proofs.IntegerTactics.{by_le, by_lt, by_ring, by_equations, reads}
 use Rattle.pa_ring.proofs.Lists.{All-from_contains}
 use Rattle.pa_ring.proofs.Sums.{dot_comm}
-use Rattle.pa_math.proofs.Unions.{AreAmong, AreAmong-itself, All-implied}
+use Rattle.pa_math.specs.Lists.{AreAmong}
+use Rattle.pa_math.proofs.Unions.{AreAmong-itself, All-implied}
 use Rattle.pa_meaning.specs.Rows.{Row, Point, Meets, MeetsAll, Breaks, row_at}
 use Rattle.pa_meaning.specs.Contracts.{Name, Behaviour, point_over, coefficient_at, behaviour_of}
 use Rattle.pa_meaning.proofs.Places.{coefficient_at-cons}

@@ -6,7 +6,8 @@ use Rattle.std.proofs.lemmas.List.Elements.{All-map, All-weaker}
 use lib.IntN.{◌*ℤ◌}
 use lib.Signed.{◌≤ℤ◌}
 use Rattle.pa_ring.proofs.Lists.{All-from_map}
-use Rattle.pa_math.proofs.Unions.{AreAmong, All-parts, IsDistinct-left}
+use Rattle.pa_math.specs.Lists.{AreAmong}
+use Rattle.pa_math.proofs.Unions.{All-parts, IsDistinct-left}
 use Rattle.std.specs.List.{list_any}
 use Rattle.pa_meaning.specs.Rows.{Row, Meets, MeetsAll}
 use Rattle.pa_meaning.specs.Contracts.{Name, Contract, ports, Behaviour, point_over, over_names, MeetsAssumptions, MeetsGuarantees}

@@ -6,7 +6,8 @@ use Rattle.std.proofs.lemmas.List.Elements.{All-nil, All-cons, All-weaker, All-a
 use Rattle.std.specs.List.{list_any, IsDistinct, AllByRecursion}
 use Rattle.std.specs.Str.{bytes_eq}
 use Rattle.pa_ring.proofs.Lists.{All-filter_where, All-from_filter}
-use Rattle.pa_math.proofs.Unions.{AreApart, AreAmong, AreApart-flip, All-both, IsDistinct-both, IsDistinct-left, IsDistinct-right, IsDistinct-apart}
+use Rattle.pa_math.specs.Lists.{AreApart, AreAmong}
+use Rattle.pa_math.proofs.Unions.{AreApart-flip, All-both, IsDistinct-both, IsDistinct-left, IsDistinct-right, IsDistinct-apart}
 use Rattle.pa_math.proofs.Unions.{AreAmong-itself, list_any-left, list_any-right}
 use Rattle.pa_meaning.specs.Contracts.{Name, Contract, ports}
 use Rattle.pa_meaning.specs.Composition.{is_among}

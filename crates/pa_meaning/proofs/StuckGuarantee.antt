@@ -3,7 +3,8 @@ use Rattle.std.proofs.Common.{ℕ, List}
 use Rattle.std.specs.List.{IsDistinct}
 use Rattle.std.specs.Str.{bytes_eq}
 use lib.IntN.{ℤ}
-use Rattle.pa_math.proofs.Unions.{AreApart, IsDistinct-right}
+use Rattle.pa_math.specs.Lists.{AreApart}
+use Rattle.pa_math.proofs.Unions.{IsDistinct-right}
 use Rattle.pa_meaning.specs.Rows.{row_at}
 use Rattle.pa_meaning.specs.Contracts.{Name, Contract, ports, coefficient_at}
 use Rattle.pa_meaning.specs.Quotient.{quotient_ports, quotient_names, IsStuckGuarantee, IsGuaranteeBroken}

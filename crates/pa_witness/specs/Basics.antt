@@ -3,7 +3,7 @@
 use Rattle.std.specs.Prelude.{◌≡◌, ◌↔◌, ℕ, List, length, ℤ, pos, ◌<ℤ◌, All}
 use Rattle.std.specs.List.{IsDistinct}
 use Rattle.std.specs.Str.{bytes_eq}
-use Rattle.pa_math.proofs.Unions.{AreAmong, AreApart}
+use Rattle.pa_math.specs.Lists.{AreAmong, AreApart}
 use Rattle.pa_meaning.specs.Rows.{Row, Point, Meets, MeetsAll}
 use Rattle.pa_meaning.specs.Weights.{Weights, NoneNegative, Proves}
 use Rattle.pa_meaning.specs.Contracts.{Name, Contract, ports, Behaviour, point_over, over_names, behaviour_of}
