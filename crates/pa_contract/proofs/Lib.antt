@@ -8,3 +8,4 @@ pub mod Made
 pub mod Fronts
 pub mod Words
 pub mod Counts
+pub mod Lookups
