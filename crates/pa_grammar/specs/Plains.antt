@@ -12,6 +12,8 @@ use Rattle.pa_names.specs.Names.{is_name}
 use Rattle.pa_frac.specs.Width.{Fits}
 use Rattle.pa_frac.specs.declared.wide.Wide.{Wide}
 use Rattle.pa_meaning.specs.Rows.{Point}
+-- `(c[0] x[0] + c[1] x[1] + .. + b) / q`, a number for each name
+pub use Rattle.pa_meaning.specs.Bounds.{Goal as Linear}
 use Rattle.pa_row.specs.Fractions.{point_in}
 use Rattle.pa_grammar.specs.declared.fault.TermFault.{TermFault}
 use Rattle.pa_grammar.specs.declared.fault.TermFault.TheVariants as F
@@ -65,13 +67,6 @@ abbrev pub plain_tokens : List ℕ → List Placed
 plain_tokens text = tokens_of_text (plain_scope (mentioned text)) text
 
 -- ---- sums over one denominator
-
--- `(c[0] x[0] + c[1] x[1] + .. + b) / q`, a number for each name
-pub record Linear : Type 0 where
-  pub names : List (List ℕ)
-  pub c : List ℤ
-  pub b : ℤ
-  pub q : ℤ
 
 -- a number for each name, a denominator of at least 1, and each number within 126 bits
 pub record IsNarrowLinear (l : Linear) : Type 0 where

@@ -1,7 +1,14 @@
 -- A loop whose turns may be refused: what is left makes what is due.
-use Rattle.std.proofs.Common.{◌≡◌, ◌⊎◌, inl, inr, sym, ap, ◌∙◌, Result, Ok, Err, List, ◌∷◌, Bool, true, false}
+use Rattle.std.proofs.Common.{◌≡◌, ◌⊎◌, ◌<◌, ℕ, refl, subst, length, inl, inr, sym, ap, ◌∙◌, Result, Ok, Err, List, ◌∷◌, Bool, true, false, nat_le}
 use Rattle.std.specs.Prelude.{if◌then◌else◌}
+use Rattle.std.proofs.lemmas.Bool.{lt-leb}
 use Rattle.pa_math.specs.Answers.{and_then, IsAnswer}
+use Rattle.pa_script.specs.declared.fault.ScriptFault.{ScriptFault}
+use Rattle.pa_script.specs.declared.fault.ScriptFault.TheVariants.{Memory}
+use Rattle.pa_script.specs.declared.op.Op.{Op}
+use Rattle.pa_script.specs.declared.op.ScriptLine.{ScriptLine}
+use Rattle.pa_script.specs.Lines.{op_of}
+use Rattle.pa_script.specs.Script.{most_lines, with_op, with_words}
 use Rattle.pa_script.specs.Steps.{each}
 
 -- the turn gave a value, so what is left is due from it
@@ -21,3 +28,11 @@ pub tested : {A E : Type 0} (memory fault : E) (test : Bool) (due r : Result A E
     else Err fault) r
 tested memory fault true due r is answer = answer
 tested memory fault false due r is answer = absurd (cc)
+
+-- a line behind fewer than there may be gives what its operation gives
+pub words_taken : (lines : List ScriptLine) (number : ℕ) (line : List ℕ) (op : Op) (r : Result (List ScriptLine) ScriptFault) → length lines < most_lines
+    → op_of number line ≡ Ok op → IsAnswer Memory (Ok (with_op lines number op)) r → IsAnswer Memory (with_words lines number line) r
+words_taken lines number line op r few is answer =
+    let long : nat_le most_lines (length lines) ≡ false = lt-leb most_lines (length lines) few in
+    let due : with_words lines number line ≡ Ok (with_op lines number op) = rw (long, is) refl in
+    subst (λ d. IsAnswer Memory d r) (sym due) answer

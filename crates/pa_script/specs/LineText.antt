@@ -23,6 +23,10 @@ ratio_text n d = lowest_text (n / gcd_of n d) (d / gcd_of n d)
 abbrev pub minus_text : ℤ → List ℕ
 minus_text n = if is_negative n then codes "-" else []
 
+-- a fraction with its sign, of two numbers without a common divisor
+abbrev pub fraction_text : ℤ → ℤ → List ℕ
+fraction_text n d = minus_text n ++ lowest_text (unsigned_abs n) (unsigned_abs d)
+
 -- one value, as ` x=-3/2`
 abbrev pub value_text : Name → ℤ → ℤ → List ℕ
 value_text name p q = codes " " ++ name ++ codes "=" ++ minus_text p ++ ratio_text (unsigned_abs p) (unsigned_abs q)

@@ -1,7 +1,14 @@
 -- What a line names.
-use Rattle.std.specs.Prelude.{List, [], ◌∷◌, Option, Some, None, Bool, true, false}
+use Rattle.std.specs.Prelude.{◌≡◌, ◌≤◌, List, [], ◌∷◌, length, Option, Some, None, Bool, true, false, pos, ◌<ℤ◌}
+use Rattle.std.specs.List.{IsDistinct}
+use Rattle.std.specs.Str.{bytes_eq}
 use Rattle.pa_meaning.specs.Contracts.{Name}
+use Rattle.pa_meaning.specs.Rows.{Point}
+use Rattle.pa_row.specs.Steps.{IsLimit}
+use Rattle.pa_grammar.specs.Plains.{Linear}
 use Rattle.pa_script.specs.declared.op.Op.{Op}
+use Rattle.pa_script.specs.declared.op.ScriptLine.{ScriptLine}
+use Rattle.pa_script.specs.declared.lines.TheConstants.{MOST_PARTS}
 use Rattle.pa_script.specs.declared.op.Op.TheVariants.{LimitRows, LimitPivots, Merge, Test, Refine, Bound, Hide, Compose, Quotient}
 
 -- the contracts that an operation works on, in the order in which the line names them
@@ -33,9 +40,39 @@ abbrev pub is_built : Op → Bool
 is_built (LimitRows most) = true
 is_built (LimitPivots most) = true
 is_built (Merge result left right) = true
-is_built (Test of names at) = false
+is_built (Test of names at) = true
 is_built (Refine left right) = false
 is_built (Bound of least goal) = false
 is_built (Hide result of names) = false
 is_built (Compose result parts keep) = false
 is_built (Quotient result whole part) = false
+
+-- the names of a point are different, and it has a number for each, over a positive denominator
+pub record IsPointOf (names : List Name) (at : Point) : Type 0 where
+  pub distinct : IsDistinct bytes_eq names
+  pub numbers : length at.p ≡ length names
+  pub positive : pos 0 <ℤ at.q
+
+-- the names of a goal are different, and it has a coefficient for each, over a positive denominator
+pub record IsGoal (goal : Linear) : Type 0 where
+  pub distinct : IsDistinct bytes_eq goal.names
+  pub numbers : length goal.c ≡ length goal.names
+  pub positive : pos 0 <ℤ goal.q
+
+-- What is true of each operation that is read: a limit is in its range, no name stands twice in a point, a goal or a list of
+-- outputs, a hiding has a name, and a composition 1 to 32 parts.
+abbrev pub IsWellFormedOp : Op → Type 0
+IsWellFormedOp (LimitRows most) = IsLimit most
+IsWellFormedOp (LimitPivots most) = IsLimit most
+IsWellFormedOp (Merge result left right) = Unit {0}
+IsWellFormedOp (Test of names at) = IsPointOf names at
+IsWellFormedOp (Refine left right) = Unit {0}
+IsWellFormedOp (Bound of least goal) = IsGoal goal
+IsWellFormedOp (Hide result of names) = IsDistinct bytes_eq names × (1 ≤ length names)
+IsWellFormedOp (Compose result parts keep) = IsDistinct bytes_eq keep × (1 ≤ length parts) × (length parts ≤ MOST_PARTS)
+IsWellFormedOp (Quotient result whole part) = Unit {0}
+
+-- what is true of each line that is read: its number counts from 1
+pub record IsWellFormedLine (line : ScriptLine) : Type 0 where
+  pub number : 1 ≤ line.number
+  pub op : IsWellFormedOp line.op

@@ -35,6 +35,14 @@ fn push_lowest(text: &mut Vec<u8>, n: u128, d: u128) -> Result<(), AllocError>
     text.extend_from_slice(buffer.format(d).as_bytes())
 }
 
+/// Adds a fraction of two numbers without a common divisor, as `-3/2`; a denominator of 1 is left out.
+pub fn push_fraction(text: &mut Vec<u8>, n: i128, d: i128) -> Result<(), AllocError>
+    ensures { OnOk result (text.new.items ≡ text.old.items ++ spec.fraction_text n d) }
+{
+    push_minus(text, n)?;
+    push_lowest(text, n.unsigned_abs(), d.unsigned_abs())
+}
+
 // A fraction in lowest terms.
 #[tactic(auto, using(pa_math::specs::LowestTerms::gcd_of_positive))]
 fn push_ratio(text: &mut Vec<u8>, n: u128, d: u128) -> Result<(), AllocError>

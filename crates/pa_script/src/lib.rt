@@ -20,11 +20,12 @@ mod words;
 mod write;
 
 pub use fault::{LineKind, ScriptFault};
+pub use fractions::push_fraction;
 pub use laws::texts_are_read_back;
 pub use op::{Mentions, Op, Script, ScriptLine};
 pub use pa_grammar::Linear;
 pub use read::{MOST_SCRIPT, read_script};
-pub use write::{push_op, write_line};
+pub use write::{push_names, push_op, write_line};
 
 #[cfg(test)]
 mod tests;

@@ -1,8 +1,10 @@
 // What a line asks for.
-ghost use Rattle.std.specs.Prelude.{◌≡◌, ◌≤◌, ◌+◌, Ok, map, take, drop, length};
+ghost use Rattle.std.specs.Prelude.{◌≡◌, ◌≤◌, ◌+◌, Ok, IfOk, map, take, drop, length};
 ghost use Rattle.pa_math.specs.Answers.{IsAnswer};
 ghost use Rattle.pa_grammar.specs.Lexer.{most_text};
 ghost use Rattle.pa_script.specs.Words.{AreShort};
+ghost use Rattle.pa_row.specs.Steps.{IsLimit};
+ghost use Rattle.pa_script.specs.Ops.{IsWellFormedOp};
 ghost use Rattle.pa_script.specs.Lines as spec;
 
 use crate::names::{different, read_name, read_names};
@@ -21,7 +23,8 @@ const MOST_PARTS: usize = 32;
 
 // The number that a limit line sets.
 fn read_limit(number: u32, word: &[u8]) -> Result<u32, ScriptFault>
-    ensures { IsAnswer ScriptFault.Memory (spec.limit_at number word.now) result }
+    ensures answer { IsAnswer ScriptFault.Memory (spec.limit_at number word.now) result }
+    ensures within { IfOk result IsLimit }
 {
     match limit_in(word) {
         Some(most) => Ok(most),
@@ -34,7 +37,8 @@ fn read_limit(number: u32, word: &[u8]) -> Result<u32, ScriptFault>
 
 // `rows N` or `pivots N`.
 fn limit_op(number: u32, text: &[u8]) -> Result<Op, ScriptFault>
-    ensures { IsAnswer ScriptFault.Memory (spec.limit_op number text.now) result }
+    ensures answer { IsAnswer ScriptFault.Memory (spec.limit_op number text.now) result }
+    ensures well_formed { IfOk result IsWellFormedOp }
 {
     let shape = ScriptFault::Line {
         number,
@@ -132,7 +136,8 @@ fn three_names(alloc: Global, number: u32, text: &[u8]) -> Result<(Name, Name, N
 
 // `A B`.
 fn refine_op(alloc: Global, number: u32, text: &[u8]) -> Result<Op, ScriptFault>
-    ensures { IsAnswer ScriptFault.Memory (spec.refine_op number text.now) result }
+    ensures answer { IsAnswer ScriptFault.Memory (spec.refine_op number text.now) result }
+    ensures well_formed { IfOk result IsWellFormedOp }
 {
     let (left, rest) = split_word(text);
     let (right, rest) = split_word(rest);
@@ -149,7 +154,8 @@ fn refine_op(alloc: Global, number: u32, text: &[u8]) -> Result<Op, ScriptFault>
 // `x=V ..` behind `C at`.
 fn test_words(alloc: Global, number: u32, of: &[u8], words: &[&[u8]]) -> Result<Op, ScriptFault>
     requires { AreShort (map (λ word. word.now) words.now) }
-    ensures { IsAnswer ScriptFault.Memory (spec.test_words number of.now (map (λ word. word.now) words.now)) result }
+    ensures answer { IsAnswer ScriptFault.Memory (spec.test_words number of.now (map (λ word. word.now) words.now)) result }
+    ensures well_formed { IfOk result IsWellFormedOp }
 {
     if !all_have_equals(words) {
         return Err(ScriptFault::Line {
@@ -168,7 +174,8 @@ fn test_words(alloc: Global, number: u32, of: &[u8], words: &[&[u8]]) -> Result<
 // `C at x=V ..`.
 fn test_op(alloc: Global, number: u32, text: &[u8]) -> Result<Op, ScriptFault>
     requires { length text.now ≤ most_text }
-    ensures { IsAnswer ScriptFault.Memory (spec.test_op number text.now) result }
+    ensures answer { IsAnswer ScriptFault.Memory (spec.test_op number text.now) result }
+    ensures well_formed { IfOk result IsWellFormedOp }
 {
     let (of, rest) = split_word(text);
     let (at, rest) = split_word(rest);
@@ -206,10 +213,13 @@ fn goal_of(
     text: &[u8],
 ) -> Result<Op, ScriptFault>
     requires { length text.now ≤ most_text }
-    ensures { IsAnswer ScriptFault.Memory (spec.goal_of number of.now least text.now) result }
+    ensures answer { IsAnswer ScriptFault.Memory (spec.goal_of number of.now least text.now) result }
+    ensures well_formed { IfOk result IsWellFormedOp }
 {
     let of = read_name(alloc, number, of)?;
     let goal = read_goal(alloc, number, text)?;
+    // A list tells that its names are distinct where it is read.
+    let _count = goal.names.len();
     Ok(Op::Bound { of, least, goal })
 }
 
@@ -222,7 +232,8 @@ fn bound_of(
     text: &[u8],
 ) -> Result<Op, ScriptFault>
     requires { length text.now ≤ most_text }
-    ensures { IsAnswer ScriptFault.Memory (spec.bound_of number of.now least text.now) result }
+    ensures answer { IsAnswer ScriptFault.Memory (spec.bound_of number of.now least text.now) result }
+    ensures well_formed { IfOk result IsWellFormedOp }
 {
     if split_word(text).0.is_empty() {
         return Err(ScriptFault::Line {
@@ -236,7 +247,8 @@ fn bound_of(
 // `C max E` or `C min E`.
 fn bound_op(alloc: Global, number: u32, text: &[u8]) -> Result<Op, ScriptFault>
     requires { length text.now ≤ most_text }
-    ensures { IsAnswer ScriptFault.Memory (spec.bound_op number text.now) result }
+    ensures answer { IsAnswer ScriptFault.Memory (spec.bound_op number text.now) result }
+    ensures well_formed { IfOk result IsWellFormedOp }
 {
     let (of, rest) = split_word(text);
     let (way, rest) = split_word(rest);
@@ -260,7 +272,8 @@ fn hide_words(
     of: &[u8],
     words: &[&[u8]],
 ) -> Result<Op, ScriptFault>
-    ensures { IsAnswer ScriptFault.Memory (spec.hide_words number name.now of.now (map (λ word. word.now) words.now)) result }
+    ensures answer { IsAnswer ScriptFault.Memory (spec.hide_words number name.now of.now (map (λ word. word.now) words.now)) result }
+    ensures well_formed { IfOk result IsWellFormedOp }
 {
     if words.is_empty() {
         return Err(ScriptFault::Line {
@@ -278,7 +291,8 @@ fn hide_words(
 // `R = C x ..`.
 fn hide_op(alloc: Global, number: u32, text: &[u8]) -> Result<Op, ScriptFault>
     requires { length text.now ≤ most_text }
-    ensures { IsAnswer ScriptFault.Memory (spec.hide_op number text.now) result }
+    ensures answer { IsAnswer ScriptFault.Memory (spec.hide_op number text.now) result }
+    ensures well_formed { IfOk result IsWellFormedOp }
 {
     let (name, rest) = split_word(text);
     let (equals, rest) = split_word(rest);
@@ -323,8 +337,11 @@ fn composed(
     parts: &[&[u8]],
     keep: &[&[u8]],
 ) -> Result<Op, ScriptFault>
-    ensures { IsAnswer ScriptFault.Memory
+    requires some { 1 ≤ length parts.now }
+    requires few { length parts.now ≤ MOST_PARTS }
+    ensures answer { IsAnswer ScriptFault.Memory
         (spec.composed number name.now (map (λ word. word.now) parts.now) (map (λ word. word.now) keep.now)) result }
+    ensures well_formed { IfOk result IsWellFormedOp }
 {
     let result = read_name(alloc, number, name)?;
     let parts = read_names(alloc, number, parts)?;
@@ -341,7 +358,8 @@ fn composed(
 #[tactic(auto, using(crate::proofs::Mapped::front_mapped))]
 fn part_words<'a, 'b>(words: &'b [&'a [u8]], count: usize) -> &'b [&'a [u8]]
     requires { count ≤ length words.now }
-    ensures { map (λ word. word.now) result.now ≡ take count (map (λ word. word.now) words.now) }
+    ensures words { map (λ word. word.now) result.now ≡ take count (map (λ word. word.now) words.now) }
+    ensures count { length result.now ≡ count }
 {
     &words[..count]
 }
@@ -353,7 +371,8 @@ fn compose_words(
     name: &[u8],
     words: &[&[u8]],
 ) -> Result<Op, ScriptFault>
-    ensures { IsAnswer ScriptFault.Memory (spec.compose_words number name.now (map (λ word. word.now) words.now)) result }
+    ensures answer { IsAnswer ScriptFault.Memory (spec.compose_words number name.now (map (λ word. word.now) words.now)) result }
+    ensures well_formed { IfOk result IsWellFormedOp }
 {
     let count = parts_count(words);
     if count > MOST_PARTS {
@@ -376,7 +395,8 @@ fn compose_words(
 // `R = A .. keep x ..`.
 fn compose_op(alloc: Global, number: u32, text: &[u8]) -> Result<Op, ScriptFault>
     requires { length text.now ≤ most_text }
-    ensures { IsAnswer ScriptFault.Memory (spec.compose_op number text.now) result }
+    ensures answer { IsAnswer ScriptFault.Memory (spec.compose_op number text.now) result }
+    ensures well_formed { IfOk result IsWellFormedOp }
 {
     let (name, rest) = split_word(text);
     let (equals, rest) = split_word(rest);
@@ -391,7 +411,8 @@ fn compose_op(alloc: Global, number: u32, text: &[u8]) -> Result<Op, ScriptFault
 }
 
 fn merge_op(alloc: Global, number: u32, text: &[u8]) -> Result<Op, ScriptFault>
-    ensures { IsAnswer ScriptFault.Memory (spec.merge_op number text.now) result }
+    ensures answer { IsAnswer ScriptFault.Memory (spec.merge_op number text.now) result }
+    ensures well_formed { IfOk result IsWellFormedOp }
 {
     let (name, left, right) = three_names(alloc, number, text)?;
     Ok(Op::Merge {
@@ -402,7 +423,8 @@ fn merge_op(alloc: Global, number: u32, text: &[u8]) -> Result<Op, ScriptFault>
 }
 
 fn quotient_op(alloc: Global, number: u32, text: &[u8]) -> Result<Op, ScriptFault>
-    ensures { IsAnswer ScriptFault.Memory (spec.quotient_op number text.now) result }
+    ensures answer { IsAnswer ScriptFault.Memory (spec.quotient_op number text.now) result }
+    ensures well_formed { IfOk result IsWellFormedOp }
 {
     let (name, whole, part) = three_names(alloc, number, text)?;
     Ok(Op::Quotient {
@@ -415,7 +437,8 @@ fn quotient_op(alloc: Global, number: u32, text: &[u8]) -> Result<Op, ScriptFaul
 // The operation of a verb, with the rest of its line.
 fn op_named(alloc: Global, number: u32, verb: &[u8], text: &[u8]) -> Result<Op, ScriptFault>
     requires { length text.now ≤ most_text }
-    ensures { IsAnswer ScriptFault.Memory (spec.op_named number verb.now text.now) result }
+    ensures answer { IsAnswer ScriptFault.Memory (spec.op_named number verb.now text.now) result }
+    ensures well_formed { IfOk result IsWellFormedOp }
 {
     if verb == b"limit".as_slice() {
         return limit_op(number, text);
@@ -435,7 +458,8 @@ fn op_named(alloc: Global, number: u32, verb: &[u8], text: &[u8]) -> Result<Op, 
 // The operation of one of the other verbs.
 fn later_op(alloc: Global, number: u32, verb: &[u8], text: &[u8]) -> Result<Op, ScriptFault>
     requires { length text.now ≤ most_text }
-    ensures { IsAnswer ScriptFault.Memory (spec.later_op number verb.now text.now) result }
+    ensures answer { IsAnswer ScriptFault.Memory (spec.later_op number verb.now text.now) result }
+    ensures well_formed { IfOk result IsWellFormedOp }
 {
     if verb == b"bound".as_slice() {
         return bound_op(alloc, number, text);
@@ -457,7 +481,8 @@ fn later_op(alloc: Global, number: u32, verb: &[u8], text: &[u8]) -> Result<Op, 
 
 /// The operation that a line asks for.
 pub(crate) fn read_op(alloc: Global, number: u32, line: &[u8]) -> Result<Op, ScriptFault>
-    ensures { IsAnswer ScriptFault.Memory (spec.op_of number line.now) result }
+    ensures answer { IsAnswer ScriptFault.Memory (spec.op_of number line.now) result }
+    ensures well_formed { IfOk result IsWellFormedOp }
 {
     if line.len() > MOST_LINE {
         return Err(ScriptFault::Line {

@@ -80,17 +80,22 @@ pub struct ScriptLine {
     pub op: Op,
 }
 
-/// The lines of a script that are not skipped, in order.
+/// The lines of a script that are not skipped, in order. Each is well formed: its number is at least 1, a
+/// limit is from 1 to 4,096, a point has one number for each of its names, a hiding has a name and a
+/// composition 1 to 32 parts.
 #[derive(Drop)]
 pub struct Script {
     pub lines: Vec<ScriptLine>,
 }
 
 impl Model for Script {
-    ghost use Rattle.std.specs.Prelude.{List};
+    ghost use Rattle.std.specs.Prelude.{List, All};
+    ghost use Rattle.pa_script.specs.Ops.{IsWellFormedLine};
     ghost use Rattle.pa_script.specs.declared.op.ScriptLine.{ScriptLine as LineValue};
 
     ghost Value = { List LineValue };
 
     ghost view = { λ s. s.lines.items };
+
+    ghost invariant = { λ s. All IsWellFormedLine s.lines.items };
 }

@@ -1,5 +1,5 @@
 // The points of tests.
-ghost use Rattle.std.specs.Prelude.{◌≡◌, ◌≤◌, IfOk, Ok, map, length, drop};
+ghost use Rattle.std.specs.Prelude.{◌≡◌, ◌≤◌, ◌+◌, IfOk, Ok, map, length, drop, pos, ◌<ℤ◌};
 ghost use Rattle.std.specs.List.{list_all, prefix_len};
 ghost use Rattle.pa_math.specs.Answers.{IsAnswer};
 ghost use Rattle.pa_grammar.specs.Lexer.{most_text};
@@ -60,7 +60,8 @@ pub(crate) fn all_have_equals(words: &[&[u8]]) -> bool
 
 /// The parts before the first `=` of each word.
 pub(crate) fn name_parts<'a>(alloc: Global, words: &[&'a [u8]]) -> Result<Vec<&'a [u8]>, AllocError>
-    ensures { IfOk result (λ names. map (λ name. name.now) names.items ≡ map spec.name_part (map (λ word. word.now) words.now)) }
+    ensures parts { IfOk result (λ names. map (λ name. name.now) names.items ≡ map spec.name_part (map (λ word. word.now) words.now)) }
+    ensures count { IfOk result (λ names. length names.items ≡ length words.now) }
 {
     words.iter().map(|word| name_part(word)).collect(alloc)
 }
@@ -106,7 +107,8 @@ fn with_fraction(
     word: &[u8],
 ) -> Result<Fractions, ScriptFault>
     requires { length word.now ≤ most_text }
-    ensures { IsAnswer ScriptFault.Memory (spec.with_fraction number fractions word.now) result }
+    ensures answer { IsAnswer ScriptFault.Memory (spec.with_fraction number fractions word.now) result }
+    ensures count { IfOk result (λ more. length more ≡ length fractions + 1) }
 {
     let Fractions { mut parts } = fractions;
     let part = read_fraction(alloc, number, word)?;
@@ -119,7 +121,8 @@ fn with_fraction(
 // The fractions of the values of the words.
 fn read_fractions(alloc: Global, number: u32, words: &[&[u8]]) -> Result<Fractions, ScriptFault>
     requires { AreShort (map (λ word. word.now) words.now) }
-    ensures { IsAnswer ScriptFault.Memory (spec.fractions_at number (map (λ word. word.now) words.now)) result }
+    ensures answer { IsAnswer ScriptFault.Memory (spec.fractions_at number (map (λ word. word.now) words.now)) result }
+    ensures count { IfOk result (λ fractions. length fractions ≡ length words.now) }
 {
     let mut fractions = Fractions {
         parts: Vec::new(alloc),
@@ -135,7 +138,9 @@ fn read_fractions(alloc: Global, number: u32, words: &[&[u8]]) -> Result<Fractio
 
 // The point of fractions, over their least common denominator.
 fn common_point(alloc: Global, number: u32, fractions: Fractions) -> Result<Point, ScriptFault>
-    ensures { IsAnswer ScriptFault.Memory (spec.common_point number fractions) result }
+    ensures answer { IsAnswer ScriptFault.Memory (spec.common_point number fractions) result }
+    ensures columns { IfOk result (λ at. length at.p ≡ length fractions) }
+    ensures positive { IfOk result (λ at. pos 0 <ℤ at.q) }
 {
     match point_of(alloc, &fractions.parts) {
         Ok(point) => Ok(point),
@@ -150,7 +155,9 @@ fn common_point(alloc: Global, number: u32, fractions: Fractions) -> Result<Poin
 /// The point of the values of the words.
 pub(crate) fn read_point(alloc: Global, number: u32, words: &[&[u8]]) -> Result<Point, ScriptFault>
     requires { AreShort (map (λ word. word.now) words.now) }
-    ensures { IsAnswer ScriptFault.Memory (spec.point_at number (map (λ word. word.now) words.now)) result }
+    ensures answer { IsAnswer ScriptFault.Memory (spec.point_at number (map (λ word. word.now) words.now)) result }
+    ensures columns { IfOk result (λ at. length at.p ≡ length words.now) }
+    ensures positive { IfOk result (λ at. pos 0 <ℤ at.q) }
 {
     let fractions = read_fractions(alloc, number, words)?;
     common_point(alloc, number, fractions)

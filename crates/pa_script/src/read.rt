@@ -3,7 +3,7 @@ ghost use Rattle.std.specs.Prelude.{◌≡◌, ◌≤◌, ◌+◌, ◌==◌, IfO
 ghost use Rattle.std.specs.List.{slice_split, list_all};
 ghost use Rattle.pa_math.specs.Answers.{IsAnswer};
 ghost use Rattle.pa_script.specs.Script as spec;
-ghost use Rattle.pa_script.specs.Ops.{is_built};
+ghost use Rattle.pa_script.specs.Ops.{is_built, IsWellFormedOp};
 
 use crate::lines::read_op;
 use crate::words::split_word;
@@ -46,9 +46,8 @@ fn is_op_built(op: &Op) -> bool
     ensures { result ≡ is_built op.now }
 {
     match op {
-        Op::LimitRows { .. } | Op::LimitPivots { .. } | Op::Merge { .. } => true,
-        Op::Test { .. }
-        | Op::Refine { .. }
+        Op::LimitRows { .. } | Op::LimitPivots { .. } | Op::Merge { .. } | Op::Test { .. } => true,
+        Op::Refine { .. }
         | Op::Bound { .. }
         | Op::Hide { .. }
         | Op::Compose { .. }
@@ -69,6 +68,8 @@ fn line_of(piece: &[u8], is_last: bool) -> &[u8]
 
 // The lines with one more, of this number.
 fn with_op(script: Script, number: u32, op: Op) -> Result<Script, ScriptFault>
+    requires number { 1 ≤ number }
+    requires op { IsWellFormedOp op }
     ensures { IsAnswer ScriptFault.Memory (Ok (spec.with_op script number op)) result }
 {
     let Script { mut lines } = script;
@@ -85,6 +86,7 @@ fn with_words(
     number: u32,
     line: &[u8],
 ) -> Result<Script, ScriptFault>
+    requires { 1 ≤ number }
     ensures { IsAnswer ScriptFault.Memory (spec.with_words script number line.now) result }
 {
     if script.lines.len() >= MOST_LINES {
@@ -99,6 +101,7 @@ fn with_words(
 
 // The lines with one more, where it is not skipped.
 fn with_line(alloc: Global, script: Script, number: u32, line: &[u8]) -> Result<Script, ScriptFault>
+    requires { 1 ≤ number }
     ensures { IsAnswer ScriptFault.Memory (spec.with_line script (number, line.now)) result }
 {
     if is_skipped(line) {

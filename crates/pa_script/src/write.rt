@@ -27,8 +27,8 @@ fn push_word(text: &mut Vec<u8>, word: &[u8]) -> Result<(), AllocError>
     text.extend_from_slice(word)
 }
 
-// Names with a space before each.
-fn push_names(text: &mut Vec<u8>, names: &Names) -> Result<(), AllocError>
+/// Adds the names, with a space before each.
+pub fn push_names(text: &mut Vec<u8>, names: &Names) -> Result<(), AllocError>
     ensures { OnOk result (text.new.items ≡ text.old.items ++ spec.words_text names.now) }
 {
     for place in 0..names.len() {
