@@ -9,7 +9,8 @@ use Rattle.std.specs.Str.{bytes_eq}
 use lib.Signed.{◌<ℤ◌}
 use Rattle.pa_meaning.specs.Rows.{Point}
 use Rattle.pa_meaning.specs.Contracts.{Name}
-use Rattle.pa_holds.specs.Refined.{Located, IsAt}
+use Rattle.pa_cert.specs.Lists.{Located}
+use Rattle.pa_holds.specs.Refined.{IsAt}
 use Rattle.pa_check.specs.Ports.{are_ports_in}
 
 read : (ys : List Name) (i : ℕ) (y : Name) → slice_get ys i ≡ Some y → drop i ys ≡ y ∷ drop (suc i) ys

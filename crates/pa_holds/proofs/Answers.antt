@@ -7,13 +7,16 @@ use Rattle.pa_meaning.specs.Contracts.{Contract, ports, behaviour_of}
 use Rattle.pa_meaning.specs.Refinement.{BreaksAssumption, BreaksGuarantee}
 use Rattle.pa_meaning.specs.Composition.{is_among}
 use Rattle.pa_meaning.proofs.Moves.{found}
-use Rattle.pa_holds.specs.Refined.{Located, IsAt}
+use Rattle.pa_holds.specs.Refined.{IsAt}
 use Rattle.pa_witness.specs.Steps.{Version}
-use Rattle.pa_holds.specs.Limits.{Limits}
+use Rattle.pa_cert.specs.Lists.{Located}
+use Rattle.pa_cert.specs.Tables.{Limits}
+use Rattle.pa_cert.specs.declared.answer.Answer.{Answer}
+use Rattle.pa_cert.specs.declared.answer.Answer.TheVariants.{Merged, TestedAs, Yes, NoAssumption, NoGuarantee, Value, Unbounded, Nothing}
+use Rattle.pa_cert.specs.declared.answer.Answer.TheVariants.{Hidden, Composed, Divided, Refused, NoMultipliers, NoMultipliersFor, Circle}
+use Rattle.pa_cert.specs.declared.answer.Answer.TheVariants.{RowLimit, PivotLimit, TooWide}
 use Rattle.pa_holds.specs.Questions.{Question, Merging, Testing, Refining, Bounding, Hiding, Composing, Dividing}
-use Rattle.pa_holds.specs.Answers.{due, Answer, GivesEach, IsMergeResult, IsTrue, IsTrueAnswer, Holds, HoldsAsPrinted, IsWellAsked}
-use Rattle.pa_holds.specs.Answers.{Merged, TestedAs, Yes, NoAssumption, NoGuarantee, Value, Unbounded, Nothing, Hidden, Composed, Divided}
-use Rattle.pa_holds.specs.Answers.{Refused, NoMultipliers, NoMultipliersFor, Circle, RowLimit, PivotLimit, TooWide}
+use Rattle.pa_holds.specs.Answers.{due, GivesEach, IsMergeResult, IsTrue, IsTrueAnswer, Holds, HoldsAsPrinted, IsWellAsked}
 use Rattle.pa_holds.specs.Refusals.{due_refine}
 use Rattle.pa_holds.proofs.Refusals.{same_names, refine_same, bound_among, compose_distinct, quotient_clear, merge_clear, merge_computed}
 use Rattle.pa_contract.proofs.Meets.{merged_is_merge}
@@ -46,7 +49,7 @@ holds_is_true v most question (PivotLimit task part) w n h = tt
 holds_is_true v most question (TooWide place) w n h = tt
 holds_is_true v most (Merging c other) (Merged m) w n h = subst (IsMergeResult c other) (sym h)
     (record { computed = merge_computed c other n; meaning = merged_is_merge c other w.0 w.1 (merge_clear c other n) })
-holds_is_true v most (Testing c names x up) (TestedAs t) w n h = tested_is_true c (behaviour_of names x up) t h
+holds_is_true v most (Testing c names x) (TestedAs t) w n h = (h.0, tested_is_true c (behaviour_of names x h.0) t h.1)
 holds_is_true v most (Refining c other) (Yes assumptions guarantees) w n h =
     refining_is_true c other w.0 w.1 (same_inputs c other n) (same_outputs c other n) assumptions guarantees h
 holds_is_true v most (Refining c other) (NoAssumption row p) w n h = (

@@ -21,8 +21,10 @@ use Rattle.pa_meaning.proofs.Farkas.{Meets-combined, none_meets}
 use Rattle.pa_meaning.proofs.NamedRows.{dot-over_names}
 use Rattle.pa_meaning.proofs.PartRows.{FitsNames, assumptions_met}
 use Rattle.pa_meaning.proofs.Moves.{moved, dot_moved, all_met_moved, past, point_is, among_from}
-use Rattle.pa_holds.specs.Refined.{Located, IsAt}
-use Rattle.pa_holds.specs.Bounded.{all_rows, goal_row, turned, WeightsBound, HoldsAsValue, Heading, over_columns, GetsBetter, HoldsAsUnbounded, HoldsAsNothing}
+use Rattle.pa_script.specs.Ops.{IsGoal}
+use Rattle.pa_cert.specs.Lists.{Located, Heading}
+use Rattle.pa_holds.specs.Refined.{IsAt}
+use Rattle.pa_holds.specs.Bounded.{all_rows, goal_row, turned, WeightsBound, HoldsAsValue, over_columns, GetsBetter, HoldsAsUnbounded, HoldsAsNothing}
 
 -- ---- over plain numbers
 -- weights whose row is the goal, or its negative, bound its value
@@ -50,7 +52,7 @@ passes_below n cp s b d q down =
     let (k, nonneg, far) = past (cp +ℤ b *ℤ d -ℤ n *ℤ (q *ℤ d)) (pos 0 -ℤ s) up in
     (k, nonneg, by_lt (n ∷ cp ∷ s ∷ b ∷ d ∷ q ∷ k ∷ []) (rise far) (search reads depth 40) tt)
 
-module _ (c : Contract) (goal : Goal) (dc : IsDistinct bytes_eq (ports c)) (dg : IsDistinct bytes_eq goal.names)
+module _ (c : Contract) (goal : Goal) (dc : IsDistinct bytes_eq (ports c)) (dg : IsGoal goal)
     (among : AreAmong bytes_eq goal.names (ports c)) where
   own_fits : FitsNames (ports c) c
   own_fits = record { distinct = dc; among = among_from (ports c) (ports c) (λ n i. i) }
@@ -68,7 +70,7 @@ module _ (c : Contract) (goal : Goal) (dc : IsDistinct bytes_eq (ports c)) (dg :
 
   -- the goal's sum, over the ports or over its own names
   goal_sum : (f : Name → ℤ) → dot (goal_row c goal) (map f (ports c)) ≡ dot goal.c (map f goal.names)
-  goal_sum f = dot-over_names f (ports c) goal.names goal.c dc dg among
+  goal_sum f = dot-over_names f (ports c) goal.names goal.c dc dg.distinct among
 
   abbrev here : (p : Located) → IsAt (ports c) p → Behaviour
   here p at = behaviour_of (ports c) p.at at.positive
@@ -101,6 +103,7 @@ module _ (c : Contract) (goal : Goal) (dc : IsDistinct bytes_eq (ports c)) (dg :
   -- A value that holds as printed is the best value.
   pub value_is_true : (least : Bool) (num den : ℤ) (w : Weights) (p : Located) → HoldsAsValue c goal least num den w p → IsBestValue c goal least num den
   value_is_true least num den w p h = record {
+    denominator = dg.positive;
     positive = h.positive;
     behaviour = here p h.at;
     meets = both_from_rows (here p h.at) (subst (MeetsAll (all_rows c)) (here_is p h.at) h.met);
@@ -113,7 +116,7 @@ module _ (c : Contract) (goal : Goal) (dc : IsDistinct bytes_eq (ports c)) (dg :
 
   -- A point and a direction that hold as printed show that there is no best value.
   pub unbounded_is_true : (least : Bool) (p : Located) (d : Heading) → HoldsAsUnbounded c goal least p d → IsUnbounded c goal least
-  unbounded_is_true least p d h n = by least h.better
+  unbounded_is_true least p d h = record { denominator = dg.positive; passes = λ n. by n least h.better }
     where
       at_steps : (k : ℤ) → pos 0 ≤ℤ k → MeetsBoth c (moved (here p h.at) k (coefficient_at d.names d.numbers))
       at_steps k up =
@@ -126,15 +129,15 @@ module _ (c : Contract) (goal : Goal) (dc : IsDistinct bytes_eq (ports c)) (dg :
       sum_at k = dot_moved goal.c (here p h.at).value (coefficient_at d.names d.numbers) k goal.names
           ∙ ap (λ t. dot goal.c (map (here p h.at).value goal.names) +ℤ k *ℤ t) (sym (goal_sum (coefficient_at d.names d.numbers)))
 
-      by : (l : Bool) → GetsBetter l (goal_row c goal) (over_columns (ports c) d) → (w : Behaviour) × MeetsBoth c w × IsBetter l goal w n (pos 1)
-      by true down =
+      by : (n : ℤ) (l : Bool) → GetsBetter l (goal_row c goal) (over_columns (ports c) d) → (w : Behaviour) × MeetsBoth c w × IsBetter l goal w n (pos 1)
+      by n true down =
           let (k, up, far) = passes_below n (dot goal.c (map (here p h.at).value goal.names)) (dot (goal_row c goal) (over_columns (ports c) d)) goal.b
           p.at.q goal.q down in (
             moved (here p h.at) k (coefficient_at d.names d.numbers),
             at_steps k up,
             subst (λ t. (pos 1 *ℤ (t +ℤ goal.b *ℤ p.at.q)) <ℤ (n *ℤ (goal.q *ℤ p.at.q))) (sym (sum_at k)) far,
           )
-      by false rises =
+      by n false rises =
           let (k, up, far) = passes_above n (dot goal.c (map (here p h.at).value goal.names)) (dot (goal_row c goal) (over_columns (ports c) d)) goal.b
           p.at.q goal.q rises in (
             moved (here p h.at) k (coefficient_at d.names d.numbers),

@@ -17,7 +17,8 @@ use Rattle.pa_witness.proofs.Composition.{parts_met}
 use Rattle.pa_meaning.proofs.CompositionPorts.{names_distinct, parts_fit}
 use Rattle.pa_witness.proofs.NamesLeft.{left_are, go_there}
 use Rattle.pa_witness.specs.Steps.{Version}
-use Rattle.pa_holds.specs.Composed.{Elimination, elimination_of, eliminated_rows, EliminationHolds, HiddenAnswer, HoldsAsHidden, ComposedAnswer}
+use Rattle.pa_cert.specs.Lists.{HiddenAnswer, ComposedAnswer}
+use Rattle.pa_holds.specs.Composed.{Elimination, elimination_of, eliminated_rows, EliminationHolds, HoldsAsHidden}
 use Rattle.pa_holds.specs.Composed.{all_guarantees, shifted_assumptions, HoldsAsComposed}
 
 -- ---- eliminated names

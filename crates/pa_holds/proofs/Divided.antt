@@ -18,7 +18,8 @@ use Rattle.pa_meaning.proofs.Shifting.{terms_met}
 use Rattle.pa_witness.proofs.Projection.{thinned_met}
 use Rattle.pa_meaning.proofs.PartRows.{MeetsAll-over_names, guarantees_met}
 use Rattle.pa_meaning.proofs.QuotientPorts.{quotient_ports_distinct, quotient_names_distinct, whole_inputs_among, part_inputs_among, whole_fits, part_fits}
-use Rattle.pa_holds.specs.Divided.{DividedAnswer, asked_rows, HoldsAsDivided}
+use Rattle.pa_cert.specs.Lists.{DividedAnswer}
+use Rattle.pa_holds.specs.Divided.{asked_rows, HoldsAsDivided}
 
 module _ (whole part : Contract) (dw : IsDistinct bytes_eq (ports whole)) (dp : IsDistinct bytes_eq (ports part))
     (clear : AreApart bytes_eq whole.inputs part.outputs) (a : DividedAnswer) (holds : HoldsAsDivided whole part a) where

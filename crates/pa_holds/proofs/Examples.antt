@@ -17,7 +17,8 @@ use Rattle.pa_witness.specs.Shifts.{ShiftHolds}
 use Rattle.pa_witness.specs.Thinning.{Dropped, ThinningHolds, cleaned}
 use Rattle.pa_witness.specs.Discharge.{Discharge, discharged, DischargeHolds}
 use Rattle.pa_witness.specs.Steps.{One}
-use Rattle.pa_holds.specs.Composed.{NamedStep, shifted_assumptions, all_guarantees, HoldsAsComposed}
+use Rattle.pa_cert.specs.Lists.{NamedStep}
+use Rattle.pa_holds.specs.Composed.{shifted_assumptions, all_guarantees, HoldsAsComposed}
 use Rattle.pa_holds.specs.Divided.{asked_rows, HoldsAsDivided}
 use Rattle.pa_holds.specs.Refusals.{due_compose, due_quotient}
 

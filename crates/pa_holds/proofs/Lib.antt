@@ -7,6 +7,9 @@ pub mod Tested
 pub mod Answers
 pub mod Tables
 pub mod WellFormed
+pub mod Stays
+pub mod Lookups
+pub mod Merging
 pub mod Examples
 pub mod PartExamples
 pub mod PointExamples

@@ -12,7 +12,8 @@ use Rattle.pa_meaning.specs.Composition.{kept_outputs, names_of}
 use Rattle.pa_witness.specs.Thinning.{Dropped, cleaned, is_place_of}
 use Rattle.pa_witness.specs.Steps.{One, Two}
 use Rattle.pa_witness.specs.Discharge.{Discharge, discharged, DischargeHolds}
-use Rattle.pa_holds.specs.Composed.{NamedStep, HiddenAnswer, HoldsAsHidden, shifted_assumptions, all_guarantees, HoldsAsComposed}
+use Rattle.pa_cert.specs.Lists.{NamedStep, HiddenAnswer}
+use Rattle.pa_holds.specs.Composed.{HoldsAsHidden, shifted_assumptions, all_guarantees, HoldsAsComposed}
 use Rattle.pa_holds.specs.Divided.{asked_rows, HoldsAsDivided}
 use Rattle.pa_holds.proofs.Examples.{row, weights, contract, a, b, i, o, w, y, none_dropped, one_zero, two_zeros, one_of, two_of, by_one}
 

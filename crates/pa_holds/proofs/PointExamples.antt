@@ -1,16 +1,22 @@
--- Small refinements and bounds, worked by hand: points that break a row, a premise that nothing meets, a value and a ray.
-use Rattle.std.proofs.Common.{refl, inr, ◌<◌, false, true, [], ◌∷◌, All, arith}
+-- Small refinements, bounds and a test, worked by hand: points that break a row, a premise that nothing meets, a value and a ray,
+-- a point that leaves a port out.
+use Rattle.std.proofs.Common.{refl, sym, inr, ◌<◌, false, true, true≢false, [], ◌∷◌, All, arith}
 use Rattle.std.proofs.lemmas.Int.{ints}
 use Rattle.std.proofs.lemmas.List.Elements.{All-nil, All-cons}
-use lib.IntN.{pos, negsuc}
+use lib.IntN.{ℤ, pos, negsuc}
 use lib.Signed.{◌≤ℤ◌}
 use Rattle.pa_ring.specs.Sums.{dot}
 use Rattle.pa_meaning.specs.Rows.{Row, Point, Meets}
 use Rattle.pa_meaning.specs.Weights.{Proves}
-use Rattle.pa_meaning.specs.Contracts.{Name, Contract}
-use Rattle.pa_meaning.specs.Bounds.{Goal}
+use Rattle.pa_meaning.specs.Contracts.{Name, Contract, behaviour_of}
+use Rattle.pa_meaning.specs.Bounds.{Goal, IsBestValue}
+use Rattle.pa_contract.specs.Testing.{Tested}
+use Rattle.pa_cert.specs.declared.answer.Answer.TheVariants.{TestedAs}
+use Rattle.pa_holds.specs.Questions.{Testing}
+use Rattle.pa_holds.specs.Answers.{IsTrueAnswer}
 use Rattle.pa_holds.specs.Refined.{HoldsAsRefining, HoldsAsBreakingAssumption, HoldsAsBreakingGuarantee}
 use Rattle.pa_holds.specs.Bounded.{HoldsAsValue, HoldsAsUnbounded}
+use Rattle.pa_holds.proofs.Tested.{tested_is_true}
 use Rattle.pa_holds.proofs.Examples.{row, weights, contract, i, p, y, composite, two_zeros, one_of, two_of}
 
 -- the name x
@@ -79,7 +85,7 @@ refines_vacuous = record {
 
 -- ---- bounds of the chain's composite: `0 <= i`, `5 i <= 1`, `-i <= 2` and `p <= i`
 abbrev goal_p : Goal
-goal_p = record { names = p ∷ []; c = pos 1 ∷ []; b = pos 0; q = pos 1; positive = omega (arith, ints) }
+goal_p = record { names = p ∷ []; c = pos 1 ∷ []; b = pos 0; q = pos 1 }
 
 abbrev fifths : Point
 fifths = record { p = pos 1 ∷ pos 1 ∷ []; q = pos 5 }
@@ -118,3 +124,35 @@ least_is_unbounded = record {
       (omega (arith, ints)) (omega (arith, ints)) (omega (arith, ints)) (omega (arith, ints));
   better = omega (arith, ints);
 }
+
+-- ---- a test at a point that leaves a port out
+-- assumes `x <= 1` and guarantees `y <= 1`
+abbrev both_at_most_one : Contract
+both_at_most_one = contract (x ∷ []) (y ∷ []) (row (pos 1 ∷ []) (pos 1) ∷ []) (row (pos 0 ∷ pos 1 ∷ []) (pos 1) ∷ [])
+
+abbrev at_two : ℤ → Point
+at_two q = record { p = pos 2 ∷ []; q = q }
+
+-- at `x = 2` the assumption is broken, and y, which has 0, meets the guarantee: the contract is kept
+abbrev words_at_two : Tested
+words_at_two = record { keeps = true; assumptions = false ∷ []; guarantees = true ∷ [] }
+
+tested_at_two : IsTrueAnswer (Testing both_at_most_one (x ∷ []) (at_two (pos 1))) (TestedAs words_at_two)
+tested_at_two = (
+  refl,
+  (
+    omega (arith, ints),
+    tested_is_true both_at_most_one (behaviour_of (x ∷ []) (at_two (pos 1)) (omega (arith, ints))) words_at_two (record {
+      assumptions = ((λ t. absurd (true≢false (sym t)), λ m. let h = m.meets in absurd (omega (arith, ints, h))), tt);
+      guarantees = ((λ t. record { meets = omega (arith, ints) }, λ m. refl), tt);
+      keeps = refl;
+    }),
+  ),
+)
+
+-- over a denominator that is not positive a point has no words, and a goal no value
+no_words_below_zero : (t : Tested) → ¬ IsTrueAnswer (Testing both_at_most_one (x ∷ []) (at_two (negsuc 0))) (TestedAs t)
+no_words_below_zero t h = let up = h.1.0 in absurd (omega (arith, ints, up))
+
+no_value_below_zero : (c : Contract) (num den : ℤ) → ¬ IsBestValue c (record { names = p ∷ []; c = pos 1 ∷ []; b = pos 0; q = negsuc 0 }) false num den
+no_value_below_zero c num den h = let up = h.denominator in absurd (omega (arith, ints, up))

@@ -19,7 +19,8 @@ use Rattle.pa_meaning.proofs.Moves.{among_from, point_is, row_at-map}
 use Rattle.pa_math.proofs.Unions.{IsDistinct-left, All-parts}
 use Rattle.std.specs.List.{list_any}
 use Rattle.std.proofs.Common.{true}
-use Rattle.pa_holds.specs.Refined.{ProveEach, HoldsAsRefining, Located, IsAt, HoldsAsBreakingAssumption, HoldsAsBreakingGuarantee}
+use Rattle.pa_cert.specs.Lists.{Located}
+use Rattle.pa_holds.specs.Refined.{ProveEach, HoldsAsRefining, IsAt, HoldsAsBreakingAssumption, HoldsAsBreakingGuarantee}
 
 -- a point that meets the rows meets each row that is proved
 pub each_met : (rows asked : List Row) (ws : List Weights) (x : Point) → pos 0 <ℤ x.q → ProveEach rows asked ws → MeetsAll rows x → MeetsAll asked x

@@ -16,7 +16,9 @@ use Rattle.pa_math.proofs.Unions.{AreApart-flip, All-implied, find-none, distinc
 use Rattle.pa_meaning.specs.Contracts.{Name, Contract, ports}
 use Rattle.pa_meaning.specs.Composition.{is_among, all_outputs, names_of}
 use Rattle.pa_meaning.specs.Quotient.{quotient_names}
-use Rattle.pa_holds.specs.Refusals.{NameRefusal, PortClash, NotOutput, PortsDiffer, Variables, Rows, or_due, first_missing, first_shared}
+use Rattle.pa_cert.specs.declared.refusal.NameRefusal.{NameRefusal}
+use Rattle.pa_cert.specs.declared.refusal.NameRefusal.TheVariants.{PortClash, NotOutput, PortsDiffer, Variables, Rows}
+use Rattle.pa_holds.specs.Refusals.{or_due, first_missing, first_shared}
 use Rattle.pa_holds.specs.Refusals.{first_repeat, are_same_names, too_many_names, too_many_rows}
 use Rattle.pa_holds.specs.Refusals.{due_merge, due_refine, due_bound, due_hide, due_compose, due_quotient}
 use Rattle.pa_names.specs.Names.{most_ports}

@@ -7,15 +7,19 @@ use Rattle.std.specs.Str.{bytes_eq}
 use Rattle.pa_meaning.specs.Contracts.{Name, Contract, Named, ports}
 use Rattle.pa_witness.specs.Steps.{Version}
 use Rattle.pa_holds.specs.Questions.{Question, Merging, Testing, Refining, Bounding, Hiding, Composing, Dividing}
-use Rattle.pa_holds.specs.Answers.{Answer, Merged, Hidden, Composed, Divided, IsTrue, IsTrueAnswer, IsWellAsked, due}
-use Rattle.pa_holds.specs.Tables.{Table, Op, LimitRows, LimitPivots, Merge, Test, Refine, Bound, Hide, Compose, Divide, LineAnswer, Set, Unknown, Taken}
-use Rattle.pa_holds.specs.Tables.{Answered}
-use Rattle.pa_holds.specs.Tables.{contract_named, contracts_named, question_of, contract_of, result_of, with_limit, with_named, advanced, LineWithAnswer}
-use Rattle.pa_holds.specs.Tables.{IsTrueOf, HoldsOver, AreTrue, HoldEach, AreWellFormed, IsWellFormedOp}
-use Rattle.pa_holds.specs.Composed.{HiddenAnswer, ComposedAnswer}
-use Rattle.pa_holds.specs.Divided.{DividedAnswer}
+use Rattle.pa_holds.specs.Answers.{IsTrue, IsTrueAnswer, IsWellAsked, due}
+use Rattle.pa_holds.specs.Tables.{question_of, IsTrueOf, HoldsOver, AreTrue, HoldEach, AreWellFormed}
+use Rattle.pa_contract.specs.Named.{contract_named, contracts_named}
+use Rattle.pa_script.specs.declared.op.Op.{Op}
+use Rattle.pa_script.specs.declared.op.Op.TheVariants.{LimitRows, LimitPivots, Merge, Test, Refine, Bound, Hide, Compose, Quotient}
+use Rattle.pa_script.specs.Ops.{result_of, IsWellFormedOp}
+use Rattle.pa_cert.specs.declared.answer.Answer.{Answer}
+use Rattle.pa_cert.specs.declared.answer.Answer.TheVariants.{Merged, Hidden, Composed, Divided}
+use Rattle.pa_cert.specs.declared.answer.LineAnswer.{LineAnswer}
+use Rattle.pa_cert.specs.declared.answer.LineAnswer.TheVariants.{Set, Unknown, Taken, Answered as AnsweredBy}
+use Rattle.pa_cert.specs.Lists.{HiddenAnswer, ComposedAnswer, DividedAnswer}
+use Rattle.pa_cert.specs.Tables.{Table, Answered, contract_of, with_limit, advanced}
 use Rattle.pa_ring.specs.Sums.{without}
-use Rattle.pa_math.specs.Answers.{given}
 use Rattle.pa_meaning.specs.Composition.{is_among, is_kept, external_inputs, kept_outputs, internal_outputs, all_outputs, names_of}
 use Rattle.pa_meaning.specs.Quotient.{quotient_outputs}
 use Rattle.pa_witness.specs.Projection.{place_of, names_left}
@@ -32,67 +36,71 @@ abbrev HasDistinctPorts : Contract → Type 0
 HasDistinctPorts c = IsDistinct bytes_eq (ports c)
 
 -- what is there, if anything is
-abbrev OfSome : {A : Type 0} → (A → Type 0) → Option A → Type 0
+abbrev pub OfSome : {A : Type 0} → (A → Type 0) → Option A → Type 0
 OfSome P None = Unit {0}
 OfSome P (Some a) = P a
 
-mapped : {A B : Type 0} (f : A → B) (P : A → Type 0) (Q : B → Type 0) → ((a : A) → P a → Q (f a)) → (o : Option A) → OfSome P o → OfSome Q (option_map f o)
+pub mapped : {A B : Type 0} (f : A → B) (P : A → Type 0) (Q : B → Type 0) → ((a : A) → P a → Q (f a)) → (o : Option A) → OfSome P o → OfSome Q (option_map f o)
 mapped f P Q g None h = tt
 mapped f P Q g (Some a) h = g a h
 
-chained : {A B : Type 0} (f : A → Option B) (P : A → Type 0) (Q : B → Type 0) → ((a : A) → P a → OfSome Q (f a)) → (o : Option A) → OfSome P o
+pub chained : {A B : Type 0} (f : A → Option B) (P : A → Type 0) (Q : B → Type 0) → ((a : A) → P a → OfSome Q (f a)) → (o : Option A) → OfSome P o
     → OfSome Q (option_and_then f o)
 chained f P Q g None h = tt
 chained f P Q g (Some a) h = g a h
 
--- a contract of the table has different ports
-found_distinct : (contracts : List Named) (test : Named → Bool) → AreWellFormed contracts
-    → OfSome (λ named. HasDistinctPorts named.contract) (find test contracts)
-found_distinct [] test h = tt
-found_distinct (n ∷ ns) test h = by (test n) (found_distinct ns test (All-tail (λ named. HasDistinctPorts named.contract) n ns h))
-  where
-    by : (b : Bool) → OfSome (λ named. HasDistinctPorts named.contract) (find test ns)
-        → OfSome (λ named. HasDistinctPorts named.contract) (cond b (Some n) (find test ns))
-    by true rest = All-head (λ (named : Named). HasDistinctPorts named.contract) n ns h
-    by false rest = rest
+-- what is said of each contract of a table is said of those that are looked up
+module _ (P : Contract → Type 0) where
+  found_has : (contracts : List Named) (test : Named → Bool) → All (λ named. P named.contract) contracts
+      → OfSome (λ named. P named.contract) (find test contracts)
+  found_has [] test h = tt
+  found_has (n ∷ ns) test h = by (test n) (found_has ns test (All-tail (λ (named : Named). P named.contract) n ns h))
+    where
+      by : (b : Bool) → OfSome (λ named. P named.contract) (find test ns) → OfSome (λ named. P named.contract) (cond b (Some n) (find test ns))
+      by true rest = All-head (λ (named : Named). P named.contract) n ns h
+      by false rest = rest
 
-one_distinct : (contracts : List Named) (name : Name) → AreWellFormed contracts → OfSome HasDistinctPorts (contract_named contracts name)
-one_distinct contracts name h =
-    mapped (λ named. named.contract) (λ named. HasDistinctPorts named.contract) HasDistinctPorts (λ named d. d)
-    (find (λ named. bytes_eq named.name name) contracts) (found_distinct contracts (λ named. bytes_eq named.name name) h)
+  pub one_has : (contracts : List Named) (name : Name) → All (λ named. P named.contract) contracts → OfSome P (contract_named contracts name)
+  one_has contracts name h =
+      mapped (λ named. named.contract) (λ named. P named.contract) P (λ named d. d) (find (λ named. bytes_eq name named.name) contracts)
+      (found_has contracts (λ named. bytes_eq name named.name) h)
 
-all_distinct : (contracts : List Named) (names : List Name) → AreWellFormed contracts → OfSome (All HasDistinctPorts) (contracts_named contracts names)
-all_distinct contracts [] h = All-nil HasDistinctPorts
-all_distinct contracts (n ∷ ns) h =
-    let rest = all_distinct contracts ns h in
-    chained (λ c. option_map (λ cs. c ∷ cs) (contracts_named contracts ns)) HasDistinctPorts (All HasDistinctPorts)
-    (λ c d. mapped (λ cs. c ∷ cs) (All HasDistinctPorts) (All HasDistinctPorts) (λ cs ds. All-cons HasDistinctPorts c cs d ds)
-    (contracts_named contracts ns) rest) (contract_named contracts n) (one_distinct contracts n h)
+  pub all_have : (contracts : List Named) (names : List Name) → All (λ named. P named.contract) contracts → OfSome (All P) (contracts_named contracts names)
+  all_have contracts [] h = All-nil P
+  all_have contracts (n ∷ ns) h =
+      let rest = all_have contracts ns h in
+      chained (λ c. option_map (λ cs. c ∷ cs) (contracts_named contracts ns)) P (All P)
+      (λ c d. mapped (λ cs. c ∷ cs) (All P) (All P) (λ cs ds. All-cons P c cs d ds) (contracts_named contracts ns) rest)
+      (contract_named contracts n) (one_has contracts n h)
+
+  -- so of a question of one contract, and of two
+  pub one_asked : (Q : Question → Type 0) (ask : Contract → Question) → ((c : Contract) → P c → Q (ask c)) → (contracts : List Named) (name : Name)
+      → All (λ named. P named.contract) contracts → OfSome Q (option_map (λ c. ask c) (contract_named contracts name))
+  one_asked Q ask f contracts name h = mapped (λ c. ask c) P Q f (contract_named contracts name) (one_has contracts name h)
+
+  pub two_asked : (Q : Question → Type 0) (ask : Contract → Contract → Question) → ((c d : Contract) → P c → P d → Q (ask c d))
+      → (contracts : List Named) (left right : Name) → All (λ named. P named.contract) contracts
+      → OfSome Q (option_and_then (λ c. option_map (λ d. ask c d) (contract_named contracts right)) (contract_named contracts left))
+  two_asked Q ask f contracts left right h =
+      chained (λ c. option_map (λ d. ask c d) (contract_named contracts right)) P Q (λ c p. one_asked Q (ask c) (λ d. f c d p) contracts right h)
+      (contract_named contracts left) (one_has contracts left h)
 
 -- so the question that a line asks is well asked
 well_asked : (contracts : List Named) (op : Op) → AreWellFormed contracts → IsWellFormedOp op → OfSome IsWellAsked (question_of contracts op)
 well_asked contracts (LimitRows n) h g = tt
 well_asked contracts (LimitPivots n) h g = tt
 well_asked contracts (Merge result left right) h g =
-    chained (λ c. option_map (λ d. Merging c d) (contract_named contracts right)) HasDistinctPorts IsWellAsked
-    (λ a e. mapped (λ d. Merging a d) HasDistinctPorts IsWellAsked (λ b d. (e, d)) (contract_named contracts right) (one_distinct contracts right h))
-    (contract_named contracts left) (one_distinct contracts left h)
-well_asked contracts (Test c names x up) h g =
-    mapped (λ c. Testing c names x up) HasDistinctPorts IsWellAsked (λ c d. d) (contract_named contracts c) (one_distinct contracts c h)
-well_asked contracts (Refine c other) h g =
-    chained (λ c. option_map (λ d. Refining c d) (contract_named contracts other)) HasDistinctPorts IsWellAsked
-    (λ a e. mapped (λ d. Refining a d) HasDistinctPorts IsWellAsked (λ b d. (e, d)) (contract_named contracts other) (one_distinct contracts other h))
-    (contract_named contracts c) (one_distinct contracts c h)
-well_asked contracts (Bound c goal least) h g =
-    mapped (λ c. Bounding c goal least) HasDistinctPorts IsWellAsked (λ c d. (d, g)) (contract_named contracts c) (one_distinct contracts c h)
-well_asked contracts (Hide result c names) h g =
-    mapped (λ c. Hiding c names) HasDistinctPorts IsWellAsked (λ c d. d) (contract_named contracts c) (one_distinct contracts c h)
+    two_asked HasDistinctPorts IsWellAsked (λ c d. Merging c d) (λ c d p q. (p, q)) contracts left right h
+well_asked contracts (Test of names x) h g = one_asked HasDistinctPorts IsWellAsked (λ c. Testing c names x) (λ c p. (p, g)) contracts of h
+well_asked contracts (Refine left right) h g =
+    two_asked HasDistinctPorts IsWellAsked (λ c d. Refining c d) (λ c d p q. (p, q)) contracts left right h
+well_asked contracts (Bound of least goal) h g = one_asked HasDistinctPorts IsWellAsked (λ c. Bounding c goal least) (λ c p. (p, g)) contracts of h
+well_asked contracts (Hide result of names) h g = one_asked HasDistinctPorts IsWellAsked (λ c. Hiding c names) (λ c p. p) contracts of h
 well_asked contracts (Compose result parts keep) h g =
-    mapped (λ ps. Composing ps keep) (All HasDistinctPorts) IsWellAsked (λ ps d. d) (contracts_named contracts parts) (all_distinct contracts parts h)
-well_asked contracts (Divide result whole part) h g =
-    chained (λ c. option_map (λ d. Dividing c d) (contract_named contracts part)) HasDistinctPorts IsWellAsked
-    (λ a e. mapped (λ d. Dividing a d) HasDistinctPorts IsWellAsked (λ b d. (e, d)) (contract_named contracts part) (one_distinct contracts part h))
-    (contract_named contracts whole) (one_distinct contracts whole h)
+    mapped (λ ps. Composing ps keep) (All HasDistinctPorts) IsWellAsked (λ ps d. d) (contracts_named contracts parts)
+    (all_have HasDistinctPorts contracts parts h)
+well_asked contracts (Quotient result whole part) h g =
+    two_asked HasDistinctPorts IsWellAsked (λ c d. Dividing c d) (λ c d p q. (p, q)) contracts whole part h
 
 -- An answer to a line that holds as it is printed is true of the table.
 pub line_is_true : (v : Version) (table : Table) (op : Op) (answer : LineAnswer) → AreWellFormed table.contracts → IsWellFormedOp op
@@ -102,7 +110,7 @@ line_is_true v table (LimitPivots n) Set h g holds = tt
 line_is_true v table op Set h g holds = absurd holds
 line_is_true v table op (Unknown n) h g holds = holds
 line_is_true v table op (Taken n) h g holds = holds
-line_is_true v table op (Answered a) h g (free, (q, is, printed)) =
+line_is_true v table op (AnsweredBy a) h g (free, (q, is, printed)) =
     (free, (q, is, printed_is_true v table.limits q a (subst (OfSome IsWellAsked) is (well_asked table.contracts op h g)) printed))
 
 -- ---- reports
@@ -157,34 +165,57 @@ true_distinct question (Composed a) w h = composed_distinct question a w h.0 h.1
 true_distinct question (Divided a) w h = divided_distinct question a w h.0 h.1
 true_distinct question answer w h = tt
 
--- so the table stays well formed
-with_contract : (table : Table) (name : Option Name) (c : Option Contract) → AreWellFormed table.contracts → OfSome HasDistinctPorts c
-    → AreWellFormed (given table name (λ n. given table c (with_named table n))).contracts
-with_contract table None c h d = h
-with_contract table (Some n) None h d = h
-with_contract table (Some n) (Some c) h d = All-push (λ named. HasDistinctPorts named.contract) table.contracts (record { name = n; contract = c }) h d
+-- ---- the table past an answer
+-- what is said of the contract of an answer, if it has one
+abbrev pub OfAnswer : (Contract → Type 0) → LineAnswer → Type 0
+OfAnswer P (AnsweredBy a) = OfSome P (contract_of a)
+OfAnswer P Set = Unit {0}
+OfAnswer P (Unknown n) = Unit {0}
+OfAnswer P (Taken n) = Unit {0}
 
-still_well_formed : (table : Table) (op : Op) (answer : LineAnswer) → AreWellFormed table.contracts → IsWellFormedOp op → IsTrueOf table op answer
-    → AreWellFormed (advanced table op answer).contracts
-still_well_formed table op Set h g t = by op
-  where
-    by : (op : Op) → AreWellFormed (with_limit table op).contracts
-    by (LimitRows n) = h
-    by (LimitPivots n) = h
-    by op = h
-still_well_formed table op (Unknown n) h g t = h
-still_well_formed table op (Taken n) h g t = h
-still_well_formed table op (Answered a) h g (free, (q, is, true')) =
-    with_contract table (result_of op) (contract_of a) h (true_distinct q a (subst (OfSome IsWellAsked) is (well_asked table.contracts op h g)) true')
+-- what is said of each contract of a table, and of the answer's, is said of each contract of the table past it
+module _ (P : Contract → Type 0) where
+  past_answer : (table : Table) (op : Op) (a : Answer) → All (λ named. P named.contract) table.contracts → OfSome P (contract_of a)
+      → All (λ named. P named.contract) (advanced table op (AnsweredBy a)).contracts
+  past_answer table op a h d = by (result_of op) (contract_of a) refl refl d
+    where
+      by : (name : Option Name) (c : Option Contract) → result_of op ≡ name → contract_of a ≡ c → OfSome P c
+          → All (λ named. P named.contract) (advanced table op (AnsweredBy a)).contracts
+      by None None e f d = rw (e, f) h
+      by None (Some c) e f d = rw (e, f) h
+      by (Some n) None e f d = rw (e, f) h
+      by (Some n) (Some c) e f d = rw (e, f) (All-push (λ named. P named.contract) table.contracts (record { name = n; contract = c }) h d)
+
+  past_limit : (table : Table) (op : Op) → All (λ named. P named.contract) table.contracts → All (λ named. P named.contract) (with_limit table op).contracts
+  past_limit table (LimitRows n) h = h
+  past_limit table (LimitPivots n) h = h
+  past_limit table op h = h
+
+  pub past_line : (table : Table) (op : Op) (answer : LineAnswer) → All (λ named. P named.contract) table.contracts → OfAnswer P answer
+      → All (λ named. P named.contract) (advanced table op answer).contracts
+  past_line table op Set h d = past_limit table op h
+  past_line table op (Unknown n) h d = h
+  past_line table op (Taken n) h d = h
+  past_line table op (AnsweredBy a) h d = past_answer table op a h d
+
+-- so the table stays well formed
+line_distinct : (table : Table) (op : Op) (answer : LineAnswer) → AreWellFormed table.contracts → IsWellFormedOp op → IsTrueOf table op answer
+    → OfAnswer HasDistinctPorts answer
+line_distinct table op Set h g t = tt
+line_distinct table op (Unknown n) h g t = tt
+line_distinct table op (Taken n) h g t = tt
+line_distinct table op (AnsweredBy a) h g (free, (q, is, true')) =
+    true_distinct q a (subst (OfSome IsWellAsked) is (well_asked table.contracts op h g)) true'
 
 -- A report whose answers hold as they are printed has true answers alone.
-pub report_is_true : (v : Version) (table : Table) (lines : List LineWithAnswer) → AreWellFormed table.contracts → All (λ l. IsWellFormedOp l.op) lines
+pub report_is_true : (v : Version) (table : Table) (lines : List Answered) → AreWellFormed table.contracts → All (λ l. IsWellFormedOp l.line.op) lines
     → HoldEach v table lines → AreTrue table lines
 report_is_true v table [] h g holds = tt
 report_is_true v table (l ∷ lines) h g holds =
-    let first : IsTrueOf table l.op l.answer = line_is_true v table l.op l.answer h (All-head (λ l. IsWellFormedOp l.op) l lines g) holds.0 in (
+    let first : IsTrueOf table l.line.op l.answer = line_is_true v table l.line.op l.answer h (All-head (λ l. IsWellFormedOp l.line.op) l lines g) holds.0 in (
       first,
-      report_is_true v (advanced table l.op l.answer) lines
-          (still_well_formed table l.op l.answer h (All-head (λ l. IsWellFormedOp l.op) l lines g) first)
-          (All-tail (λ l. IsWellFormedOp l.op) l lines g) holds.1,
+      report_is_true v (advanced table l.line.op l.answer) lines
+          (past_line HasDistinctPorts table l.line.op l.answer h
+          (line_distinct table l.line.op l.answer h (All-head (λ l. IsWellFormedOp l.line.op) l lines g) first))
+          (All-tail (λ l. IsWellFormedOp l.line.op) l lines g) holds.1,
     )

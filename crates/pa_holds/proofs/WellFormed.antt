@@ -29,14 +29,16 @@ use Rattle.pa_contract.specs.Merge.{merged, row_count, most_rows}
 use Rattle.pa_contract.specs.WellFormed.{IsRowList, IsWellFormed}
 use Rattle.pa_contract.proofs.Results.{merged_is_well_formed}
 use Rattle.pa_names.specs.Names.{most_ports}
-use Rattle.pa_holds.specs.Composed.{Elimination, elimination_of, eliminated_rows, EliminationHolds, HiddenAnswer, HoldsAsHidden, ComposedAnswer}
+use Rattle.pa_holds.specs.Composed.{Elimination, elimination_of, eliminated_rows, EliminationHolds, HoldsAsHidden}
 use Rattle.pa_holds.specs.Composed.{all_guarantees, shifted_assumptions, HoldsAsComposed}
-use Rattle.pa_holds.specs.Divided.{DividedAnswer, asked_rows, HoldsAsDivided}
-use Rattle.pa_holds.specs.Limits.{Limits}
+use Rattle.pa_holds.specs.Divided.{asked_rows, HoldsAsDivided}
+use Rattle.pa_cert.specs.Lists.{HiddenAnswer, ComposedAnswer, DividedAnswer}
+use Rattle.pa_cert.specs.Tables.{Limits, contract_of}
+use Rattle.pa_cert.specs.declared.answer.Answer.{Answer}
+use Rattle.pa_cert.specs.declared.answer.Answer.TheVariants.{Merged, Hidden, Composed, Divided}
 use Rattle.pa_holds.specs.Questions.{Question, Merging, Hiding, Composing, Dividing}
-use Rattle.pa_holds.specs.Answers.{Answer, Merged, Hidden, Composed, Divided, HoldsAsPrinted}
+use Rattle.pa_holds.specs.Answers.{HoldsAsPrinted}
 use Rattle.pa_holds.specs.Refusals.{due_merge, due_hide, due_compose, due_quotient}
-use Rattle.pa_holds.specs.Tables.{contract_of}
 use Rattle.pa_holds.specs.Laws.{contracts_of}
 use Rattle.pa_holds.proofs.Refusals.{merge_clear, merge_names, merge_rows, hide_rows, compose_distinct, compose_names, compose_rows, quotient_clear}
 use Rattle.pa_holds.proofs.Refusals.{quotient_names_few, quotient_rows}

@@ -1,69 +1,42 @@
 -- The answers to questions about contracts: which are true, and which hold as they are printed.
-use Rattle.std.specs.Prelude.{◌≡◌, ◌≢◌, ℕ, List, length, map, filter, Option, Some, None, Ok, ℤ, pos, ◌<ℤ◌, Bool, not, ◌||◌, Decides, All}
-use Rattle.std.specs.List.{list_all, AllZip, IsDistinct}
+use Rattle.std.specs.Prelude.{◌≡◌, ◌≢◌, List, length, map, filter, Option, Some, None, Ok, pos, ◌<ℤ◌, Decides, All}
+use Rattle.std.specs.List.{AllZip, IsDistinct}
 use Rattle.std.specs.Str.{bytes_eq}
 use Rattle.pa_meaning.specs.Rows.{Meets}
-use Rattle.pa_meaning.specs.Weights.{Weights}
 use Rattle.pa_meaning.specs.Contracts.{Name, Contract, ports, Behaviour, behaviour_of, point_over, Keeps}
 use Rattle.pa_meaning.specs.Refinement.{Refines, BreaksAssumption, BreaksGuarantee}
 use Rattle.pa_meaning.specs.Bounds.{IsBestValue, IsUnbounded, HasNoBehaviour}
 use Rattle.pa_meaning.specs.Composition.{is_among, all_outputs, internal_outputs, IsHidden, IsComposite, Stuck, IsStuckForGood, IsCircle}
 use Rattle.pa_meaning.specs.Quotient.{IsQuotient, IsStuckGuarantee}
 use Rattle.pa_witness.specs.Steps.{Version}
-use Rattle.pa_row.specs.declared.place.Task.{Task}
-use Rattle.pa_row.specs.declared.place.Sub.{Sub}
-use Rattle.pa_row.specs.declared.place.Place.{Place}
-use Rattle.pa_holds.specs.Refined.{Located, HoldsAsRefining, HoldsAsBreakingAssumption, HoldsAsBreakingGuarantee}
-use Rattle.pa_holds.specs.Bounded.{Heading, over_columns, HoldsAsValue, HoldsAsUnbounded, HoldsAsNothing}
-use Rattle.pa_holds.specs.Composed.{HiddenAnswer, HoldsAsHidden, ComposedAnswer, HoldsAsComposed}
-use Rattle.pa_holds.specs.Divided.{DividedAnswer, HoldsAsDivided}
+use Rattle.pa_holds.specs.Refined.{HoldsAsRefining, HoldsAsBreakingAssumption, HoldsAsBreakingGuarantee}
+use Rattle.pa_holds.specs.Bounded.{over_columns, HoldsAsValue, HoldsAsUnbounded, HoldsAsNothing}
+use Rattle.pa_holds.specs.Composed.{HoldsAsHidden, HoldsAsComposed}
+use Rattle.pa_holds.specs.Divided.{HoldsAsDivided}
 use Rattle.pa_meaning.specs.Merge.{IsMerge}
 use Rattle.pa_contract.specs.Merge.{merged, merge_of}
-use Rattle.pa_holds.specs.Limits.{Limits, LimitFits, PivotsFit, PlaceFits}
+use Rattle.pa_contract.specs.Testing.{Tested, keeps_word}
+use Rattle.pa_script.specs.Ops.{IsPointOf, IsGoal}
+use Rattle.pa_cert.specs.Lists.{Located, Heading, StuckRow}
+use Rattle.pa_cert.specs.Tables.{Limits}
+use Rattle.pa_cert.specs.declared.refusal.NameRefusal.{NameRefusal}
+use Rattle.pa_cert.specs.declared.answer.Answer.{Answer}
+use Rattle.pa_cert.specs.declared.answer.Answer.TheVariants.{Merged, TestedAs, Yes, NoAssumption, NoGuarantee, Value, Unbounded, Nothing}
+use Rattle.pa_cert.specs.declared.answer.Answer.TheVariants.{Hidden, Composed, Divided, Refused, NoMultipliers, NoMultipliersFor, Circle}
+use Rattle.pa_cert.specs.declared.answer.Answer.TheVariants.{RowLimit, PivotLimit, TooWide}
+use Rattle.pa_holds.specs.Limits.{LimitFits, PivotsFit, PlaceFits}
 use Rattle.pa_holds.specs.Questions.{Question, Merging, Testing, Refining, Bounding, Hiding, Composing, Dividing}
-use Rattle.pa_holds.specs.Refusals.{NameRefusal, due_merge, due_test, due_refine, due_bound, due_hide, due_compose, due_quotient}
+use Rattle.pa_holds.specs.Refusals.{due_merge, due_test, due_refine, due_bound, due_hide, due_compose, due_quotient}
 
 -- the refusal by name that is due first
 abbrev pub due : Question → Option NameRefusal
 due (Merging c other) = due_merge c other
-due (Testing c names x up) = due_test c names
+due (Testing c names x) = due_test c names
 due (Refining c other) = due_refine c other
 due (Bounding c goal least) = due_bound c goal.names
 due (Hiding c names) = due_hide c names
 due (Composing parts keep) = due_compose parts keep
 due (Dividing whole part) = due_quotient whole part
-
--- a word for each row, and whether the contract is kept
-pub record Tested : Type 0 where
-  pub keeps : Bool
-  pub assumptions : List Bool
-  pub guarantees : List Bool
-
--- an assumption of a part, and the printed direction that sticks it
-pub record StuckRow : Type 0 where
-  pub part : ℕ
-  pub row : ℕ
-  pub direction : Heading
-
-pub data Answer : Type 0 where
-  Merged : Contract → Answer
-  TestedAs : Tested → Answer
-  Yes : List Weights → List Weights → Answer
-  NoAssumption : ℕ → Located → Answer
-  NoGuarantee : ℕ → Located → Answer
-  Value : ℤ → ℤ → Weights → Located → Answer
-  Unbounded : Located → Heading → Answer
-  Nothing : Weights → Answer
-  Hidden : HiddenAnswer → Answer
-  Composed : ComposedAnswer → Answer
-  Divided : DividedAnswer → Answer
-  Refused : NameRefusal → Answer
-  NoMultipliers : StuckRow → Answer
-  NoMultipliersFor : ℕ → Heading → Answer
-  Circle : List StuckRow → Answer
-  RowLimit : ℕ → ℕ → Answer
-  PivotLimit : Task → Sub → Answer
-  TooWide : Place → Answer
 
 -- ---- parts of both
 -- the printed contract is the one that the definition gives, and so the merge
@@ -71,17 +44,17 @@ pub record IsMergeResult (c other m : Contract) : Type 0 where
   pub computed : merge_of c other ≡ Ok m
   pub meaning : IsMerge c other m
 
--- each word says whether the behaviour meets its row, and the last one whether it keeps the contract
-pub record IsTested (c : Contract) (v : Behaviour) (t : Tested) : Type 0 where
+-- each word says whether the behaviour meets its row, and the first one whether it keeps the contract
+pub record IsTestOf (c : Contract) (v : Behaviour) (t : Tested) : Type 0 where
   pub assumptions : AllZip (λ r word. Decides word (Meets r (point_over c.inputs v))) c.assumptions t.assumptions
   pub guarantees : AllZip (λ r word. Decides word (Meets r (point_over (ports c) v))) c.guarantees t.guarantees
   pub keeps : Decides t.keeps (Keeps c v)
 
--- the last word follows from the others
+-- the first word follows from the others
 pub record HoldsAsTested (c : Contract) (v : Behaviour) (t : Tested) : Type 0 where
   pub assumptions : AllZip (λ r word. Decides word (Meets r (point_over c.inputs v))) c.assumptions t.assumptions
   pub guarantees : AllZip (λ r word. Decides word (Meets r (point_over (ports c) v))) c.guarantees t.guarantees
-  pub keeps : t.keeps ≡ (not (list_all (λ b. b) t.assumptions) || list_all (λ b. b) t.guarantees)
+  pub keeps : t.keeps ≡ keeps_word t.assumptions t.guarantees
 
 -- the direction names some of the columns, in their order, each with a number other than 0
 pub record IsAlong (columns : List Name) (h : Heading) : Type 0 where
@@ -103,12 +76,13 @@ abbrev pub behaviour_at : (c : Contract) (p : Located) → GivesEach c p → Beh
 behaviour_at c p g = behaviour_of p.names p.at g.positive
 
 -- ---- true
--- of a limit that was met, and of a number that is too wide, nothing is said
+-- Of a limit that was met, and of a number that is too wide, nothing is said. A port that the point of a test does not name has
+-- 0 there, as `behaviour_of` says.
 abbrev pub IsTrue : Question → Answer → Type 0
 IsTrue question (PivotLimit task part) = Unit {0}
 IsTrue question (TooWide place) = Unit {0}
 IsTrue (Merging c other) (Merged m) = IsMergeResult c other m
-IsTrue (Testing c names x up) (TestedAs t) = IsTested c (behaviour_of names x up) t
+IsTrue (Testing c names x) (TestedAs t) = (up : pos 0 <ℤ x.q) × IsTestOf c (behaviour_of names x up) t
 IsTrue (Refining c other) (Yes assumptions guarantees) = Refines c other
 IsTrue (Refining c other) (NoAssumption row p) = (g : GivesEach c p) × BreaksAssumption c other row (behaviour_at c p g)
 IsTrue (Refining c other) (NoGuarantee row p) = (g : GivesEach c p) × BreaksGuarantee c other row (behaviour_at c p g)
@@ -135,7 +109,7 @@ abbrev pub Holds : Version → Limits → Question → Answer → Type 0
 Holds v most question (PivotLimit task part) = PivotsFit most question task part
 Holds v most question (TooWide place) = PlaceFits most question place
 Holds v most (Merging c other) (Merged m) = m ≡ merged c other
-Holds v most (Testing c names x up) (TestedAs t) = HoldsAsTested c (behaviour_of names x up) t
+Holds v most (Testing c names x) (TestedAs t) = (up : pos 0 <ℤ x.q) × HoldsAsTested c (behaviour_of names x up) t
 Holds v most (Refining c other) (Yes assumptions guarantees) = HoldsAsRefining c other assumptions guarantees
 Holds v most (Refining c other) (NoAssumption row p) = HoldsAsBreakingAssumption c other row p
 Holds v most (Refining c other) (NoGuarantee row p) = HoldsAsBreakingGuarantee c other row p
@@ -157,12 +131,13 @@ abbrev pub HoldsAsPrinted : Version → Limits → Question → Answer → Type 
 HoldsAsPrinted v most question (Refused r) = due question ≡ Some r
 HoldsAsPrinted v most question answer = (due question ≡ None) × Holds v most question answer
 
--- what is true of each contract and each goal of a question: no name stands twice
+-- what is true of the contracts, the goal and the point of a question: no name stands twice, and a goal and a point have a number
+-- for each name, over a positive one
 abbrev pub IsWellAsked : Question → Type 0
 IsWellAsked (Merging c other) = IsDistinct bytes_eq (ports c) × IsDistinct bytes_eq (ports other)
-IsWellAsked (Testing c names x up) = IsDistinct bytes_eq (ports c)
+IsWellAsked (Testing c names x) = IsDistinct bytes_eq (ports c) × IsPointOf names x
 IsWellAsked (Refining c other) = IsDistinct bytes_eq (ports c) × IsDistinct bytes_eq (ports other)
-IsWellAsked (Bounding c goal least) = IsDistinct bytes_eq (ports c) × IsDistinct bytes_eq goal.names
+IsWellAsked (Bounding c goal least) = IsDistinct bytes_eq (ports c) × IsGoal goal
 IsWellAsked (Hiding c names) = IsDistinct bytes_eq (ports c)
 IsWellAsked (Composing parts keep) = All (λ p. IsDistinct bytes_eq (ports p)) parts
 IsWellAsked (Dividing whole part) = IsDistinct bytes_eq (ports whole) × IsDistinct bytes_eq (ports part)

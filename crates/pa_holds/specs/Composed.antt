@@ -1,5 +1,5 @@
 -- What is printed for a composite, and for hidden outputs, and when it holds as it is printed: by sums alone.
-use Rattle.std.specs.Prelude.{◌≡◌, ℕ, List, [], ◌∷◌, length, map, filter, flat_map, not, All, Option, Some, None}
+use Rattle.std.specs.Prelude.{◌≡◌, ℕ, List, [], ◌∷◌, length, map, filter, flat_map, not, All, Some, None}
 use Rattle.pa_meaning.specs.Rows.{Row}
 use Rattle.pa_meaning.specs.Contracts.{Name, Contract, ports}
 use Rattle.pa_meaning.specs.Composition.{is_among, external_inputs, kept_outputs, internal_outputs, names_of, guarantees_over}
@@ -7,6 +7,7 @@ use Rattle.pa_witness.specs.Thinning.{Dropped, ThinningHolds, thinned}
 use Rattle.pa_witness.specs.Steps.{Version}
 use Rattle.pa_witness.specs.Projection.{StepsHold, projected}
 use Rattle.pa_witness.specs.Discharge.{Discharge, DischargeHolds, discharged, all_discharge_rows}
+use Rattle.pa_cert.specs.Lists.{NamedStep, HiddenAnswer, ComposedAnswer}
 
 -- ---- names that are eliminated from rows
 -- the drops of the given rows, and those of each step
@@ -23,11 +24,6 @@ pub record EliminationHolds (v : Version) (most : ℕ) (names : List Name) (rows
   pub first : ThinningHolds (length names) rows [] e.first
   pub steps : StepsHold v most names (thinned (length names) rows e.first) gone e.steps
 
--- a printed step: the name that goes, none for the given rows, and the drops
-pub record NamedStep : Type 0 where
-  pub name : Option Name
-  pub drops : List Dropped
-
 -- the elimination of printed steps
 abbrev pub elimination_of : List NamedStep → Elimination
 elimination_of [] = record { first = []; steps = [] }
@@ -38,10 +34,6 @@ abbrev pub AreNamed : List Name → List NamedStep → Type 0
 AreNamed gone steps = map (λ s. s.name) steps ≡ None ∷ map Some gone
 
 -- ---- hidden outputs
-pub record HiddenAnswer : Type 0 where
-  pub contract : Contract
-  pub steps : List NamedStep
-
 pub record HoldsAsHidden (v : Version) (most : ℕ) (c : Contract) (names : List Name) (a : HiddenAnswer) : Type 0 where
   pub named : AreNamed (filter (is_among names) c.outputs) a.steps
   pub elimination : EliminationHolds v most (ports c) c.guarantees (filter (is_among names) c.outputs) (elimination_of a.steps)
@@ -53,12 +45,6 @@ pub record HoldsAsHidden (v : Version) (most : ℕ) (c : Contract) (names : List
   }
 
 -- ---- composites
-pub record ComposedAnswer : Type 0 where
-  pub contract : Contract
-  pub discharges : List Discharge
-  pub thin : List Dropped
-  pub steps : List NamedStep
-
 -- all parts' guarantees over the names of the composition
 abbrev pub all_guarantees : List Contract → List Row
 all_guarantees parts = flat_map (guarantees_over (names_of parts)) parts

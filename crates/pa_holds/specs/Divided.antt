@@ -1,18 +1,13 @@
 -- What is printed for a quotient, and when it holds as it is printed.
-use Rattle.std.specs.Prelude.{◌≡◌, List, ◌++◌, length, map, Bool}
+use Rattle.std.specs.Prelude.{◌≡◌, List, ◌++◌, length, map}
 use Rattle.pa_meaning.specs.Rows.{Row}
 use Rattle.pa_meaning.specs.Weights.{Weights}
 use Rattle.pa_meaning.specs.Contracts.{Contract}
 use Rattle.pa_meaning.specs.Composition.{assumptions_over, guarantees_over}
 use Rattle.pa_meaning.specs.Quotient.{quotient_outputs, quotient_ports, quotient_names, narrows}
 use Rattle.pa_witness.specs.Shifts.{ShiftsHold, shifted_rows}
-use Rattle.pa_witness.specs.Thinning.{Dropped, ThinningHolds, thinned}
-
-pub record DividedAnswer : Type 0 where
-  pub contract : Contract
-  pub narrow : List Bool
-  pub shifts : List Weights
-  pub thin : List Dropped
+use Rattle.pa_witness.specs.Thinning.{ThinningHolds, thinned}
+use Rattle.pa_cert.specs.Lists.{DividedAnswer}
 
 -- what the part assumes, and what the shifts leave of the whole's guarantees, over the quotient's ports
 abbrev pub asked_rows : Contract → Contract → List Weights → List Row

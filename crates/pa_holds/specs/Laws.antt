@@ -2,12 +2,16 @@
 use Rattle.std.specs.Prelude.{◌≡◌, ◌≤◌, List, [], ◌∷◌, All, Some}
 use Rattle.pa_meaning.specs.Contracts.{Contract}
 use Rattle.pa_witness.specs.Steps.{Version}
-use Rattle.pa_holds.specs.Limits.{Limits}
 use Rattle.pa_contract.specs.Merge.{most_rows}
 use Rattle.pa_contract.specs.WellFormed.{IsWellFormed}
+use Rattle.pa_script.specs.declared.op.Op.{Op}
+use Rattle.pa_script.specs.Ops.{IsWellFormedOp}
+use Rattle.pa_cert.specs.declared.answer.Answer.{Answer}
+use Rattle.pa_cert.specs.declared.answer.LineAnswer.{LineAnswer}
+use Rattle.pa_cert.specs.Tables.{Limits, Table, Answered, contract_of}
 use Rattle.pa_holds.specs.Questions.{Question, Merging, Testing, Refining, Bounding, Hiding, Composing, Dividing}
-use Rattle.pa_holds.specs.Answers.{Answer, IsWellAsked, HoldsAsPrinted, IsTrueAnswer}
-use Rattle.pa_holds.specs.Tables.{Table, Op, LineAnswer, LineWithAnswer, AreWellFormed, IsWellFormedOp, HoldsOver, IsTrueOf, HoldEach, AreTrue, contract_of}
+use Rattle.pa_holds.specs.Answers.{IsWellAsked, HoldsAsPrinted, IsTrueAnswer}
+use Rattle.pa_holds.specs.Tables.{AreWellFormed, HoldsOver, IsTrueOf, HoldEach, AreTrue}
 
 -- an answer that holds as it is printed is true, in either version and under any limits
 abbrev pub PrintedIsTrue : Type 0
@@ -21,13 +25,13 @@ LineIsTrue = (v : Version) (table : Table) (op : Op) (answer : LineAnswer)
 
 -- a report whose answers hold, each over the table that those before it leave, has true answers alone
 abbrev pub ReportIsTrue : Type 0
-ReportIsTrue = (v : Version) (table : Table) (lines : List LineWithAnswer)
-    → AreWellFormed table.contracts → All (λ l. IsWellFormedOp l.op) lines → HoldEach v table lines → AreTrue table lines
+ReportIsTrue = (v : Version) (table : Table) (lines : List Answered)
+    → AreWellFormed table.contracts → All (λ l. IsWellFormedOp l.line.op) lines → HoldEach v table lines → AreTrue table lines
 
 -- the contracts of a question
 abbrev pub contracts_of : Question → List Contract
 contracts_of (Merging c other) = c ∷ other ∷ []
-contracts_of (Testing c names x up) = c ∷ []
+contracts_of (Testing c names x) = c ∷ []
 contracts_of (Refining c other) = c ∷ other ∷ []
 contracts_of (Bounding c goal least) = c ∷ []
 contracts_of (Hiding c names) = c ∷ []

@@ -12,12 +12,8 @@ use Rattle.pa_row.specs.declared.place.Place.{Place}
 use Rattle.pa_meaning.specs.Contracts.{Name, Contract}
 use Rattle.pa_meaning.specs.Composition.{is_among, part_at, internal_outputs}
 use Rattle.pa_contract.specs.Merge.{row_count}
+use Rattle.pa_cert.specs.Tables.{Limits}
 use Rattle.pa_holds.specs.Questions.{Question, Testing, Refining, Bounding, Hiding, Composing, Dividing}
-
--- the limits in force: rows of a step, and pivots of a problem
-pub record Limits : Type 0 where
-  pub rows : ℕ
-  pub pivots : ℕ
 
 -- the step is one of these names', and its number of rows is above the limit
 pub record LimitFits (most : ℕ) (gone : List Name) (step count : ℕ) : Type 0 where
@@ -49,7 +45,7 @@ pub record IsPartRow (parts : List Contract) (part row : ℕ) : Type 0 where
 
 -- the task is one of the operation's, and its numbers are in their ranges
 abbrev pub TaskFits : Limits → Question → Task → Type 0
-TaskFits most (Testing c names x up) (Sum row) = row < row_count c
+TaskFits most (Testing c names x) (Sum row) = row < row_count c
 TaskFits most (Refining c other) (Cover row) = row < length c.assumptions + length other.guarantees
 TaskFits most (Bounding c goal least) Goal = Unit {0}
 TaskFits most (Hiding c names) (Clean (Step step) row) =

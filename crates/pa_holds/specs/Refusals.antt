@@ -6,14 +6,8 @@ use Rattle.pa_meaning.specs.Composition.{is_among, all_outputs, names_of}
 use Rattle.pa_meaning.specs.Quotient.{quotient_names}
 use Rattle.pa_names.specs.Names.{most_ports}
 use Rattle.pa_contract.specs.Merge.{merged, first_clash, row_count, most_rows}
-
-pub data NameRefusal : Type 0 where
-  UnknownPort : Name → NameRefusal
-  PortClash : Name → NameRefusal
-  NotOutput : Name → NameRefusal
-  PortsDiffer : NameRefusal
-  Variables : ℕ → NameRefusal
-  Rows : ℕ → NameRefusal
+use Rattle.pa_cert.specs.declared.refusal.NameRefusal.{NameRefusal}
+use Rattle.pa_cert.specs.declared.refusal.NameRefusal.TheVariants.{UnknownPort, PortClash, NotOutput, PortsDiffer, Variables, Rows}
 
 -- the first that is due, else the second
 abbrev pub or_due : Option NameRefusal → Option NameRefusal → Option NameRefusal

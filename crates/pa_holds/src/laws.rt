@@ -2,12 +2,13 @@
 ghost use Rattle.pa_holds.specs.Laws.{LineIsTrue, PrintedIsTrue, PrintedIsWellFormed, ReportIsTrue};
 
 /// An answer to a question about contracts that holds as it is printed is true: its numbers, names and sums
-/// alone show it, whoever made them. In no contract and no goal of the question a name stands twice.
+/// alone show it, whoever made them. In no contract, goal and point of the question a name stands twice, and
+/// a goal and a point have a number for each name, over a positive denominator.
 pub fn printed_is_true()
     ensures { PrintedIsTrue }
 {}
 
-/// The same of an answer to a script line, over the table of contracts that the line finds.
+/// The same of an answer to a script line that is well formed, over the table of contracts that the line finds.
 pub fn line_is_true()
     ensures { LineIsTrue }
 {}

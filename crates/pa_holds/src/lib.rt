@@ -2,7 +2,8 @@
 //! functions of `laws` are empty, and each has a theorem as its clause.
 //!
 //! A reader of a report believes `pa_meaning`, and of this crate what `IsTrueAnswer` of `specs/Answers` says. What holds as
-//! printed is what a checker tests. Read `specs/Answers` first, then `specs/Tables`.
+//! printed is what a checker tests. Operations, answers and tables are the code's own types, of `pa_script` and `pa_cert`.
+//! Read `specs/Answers` first, then `specs/Tables`.
 #![tactic(auto)]
 
 mod laws;
