@@ -1,16 +1,18 @@
 // What is read at the ends of a run, in whole numbers.
-ghost use Rattle.std.specs.Prelude.{◌≡◌, ◌≤◌, ◌<◌, Ok, length};
+ghost use Rattle.std.specs.Prelude.{◌≡◌, ◌≤◌, ◌<◌, Ok, Err, IfOk, length};
 ghost use Rattle.pa_math.specs.Answers.{IsAnswer, told_as};
 ghost use Rattle.pa_row.specs.Answers.{as_fault};
 ghost use Rattle.pa_replay.specs.Readings.{IsAscending, endless_answer, least_answer, ray_read, weights_read};
-ghost use Rattle.pa_tableau.specs.Arithmetic.{at_width};
+ghost use Rattle.pa_replay.specs.Limits.{HasNoBasisTwice};
+ghost use Rattle.pa_tableau.specs.Arithmetic.{at_width, exact};
 ghost use Rattle.pa_tableau.specs.Work.{HasRoom};
 ghost use Rattle.pa_bland.specs.declared.answer.SolveError.TheVariants as SolveError;
-ghost use Rattle.pa_bland.specs.Answered.{IsReadable, answer_of, answer_read, as_error as as_error_of};
+ghost use Rattle.pa_bland.specs.Answered.{IsReadable, IsUnlimited, Shows, answer_of, answer_read, as_error as as_error_of};
 ghost use Rattle.pa_bland.specs.Seen.{IsBegun, KeepsRoom};
 
 use crate::read::{direction, last_weights, point, ray_weights, value};
-use crate::{End, Problem, SolveFault, solve_in};
+use crate::run::solve_lent;
+use crate::{End, LentProblem, SolveFault};
 use pa_frac::Fraction;
 use pa_row::{RowFault, Weights};
 use pa_tableau::{WideAt, Work};
@@ -18,7 +20,7 @@ use std::alloc::Global;
 use std::marker::Model;
 
 /// What is read at the least end: weights that combine the rows to the target, and a point that meets the
-/// rows, both of one value.
+/// rows, both of one value. Each number is below `2^126` in absolute value.
 #[derive(Drop)]
 pub struct LeastAnswer {
     /// The weights of the rows.
@@ -32,11 +34,15 @@ pub struct LeastAnswer {
 }
 
 impl Model for LeastAnswer {
+    ghost use Rattle.std.specs.Prelude.{All};
     ghost use Rattle.pa_replay.specs.Readings.{LeastRead};
+    ghost use Rattle.pa_row.specs.Fractions.{IsFraction};
 
     ghost Value = { LeastRead };
 
     ghost view = { λ a. record { weights = a.weights; point = a.point.items; value = (a.num, a.den) } };
+
+    ghost invariant = { λ a. All IsFraction a.point.items × IsFraction (a.num, a.den) };
 }
 
 /// What is read at an endless column: a ray whose combined row has coefficients 0 and a negative bound, and
@@ -58,7 +64,7 @@ impl Model for EndlessAnswer {
 }
 
 /// What is read where no weights exist: a direction in which no row rises and the target does, in whole
-/// numbers without a common divisor.
+/// numbers without a common divisor, each below `2^126` in absolute value.
 #[derive(Drop)]
 pub struct Direction {
     /// The number of each column.
@@ -66,11 +72,14 @@ pub struct Direction {
 }
 
 impl Model for Direction {
-    ghost use Rattle.std.specs.Prelude.{List, ℤ};
+    ghost use Rattle.std.specs.Prelude.{All, List, ℤ};
+    ghost use Rattle.pa_frac.specs.Width.{Fits};
 
     ghost Value = { List ℤ };
 
     ghost view = { λ d. d.numbers.items };
+
+    ghost invariant = { λ d. All (Fits 126) d.numbers.items };
 }
 
 /// What a problem's answer is.
@@ -187,30 +196,31 @@ fn read_end<F: Fraction>(
     }
 }
 
-/// The answer to a problem, by a run over fractions of a type, and what is read at its end. The conditions
-/// are that the work has room and that `most` is at most 4,096.
+/// The answer to a problem that is lent, by a run over fractions of a type, and what is read at its end. One
+/// work serves many problems. The conditions are that the work has room and that `most` is at most 4,096.
 ///
 /// `PivotLimit` and `Wide` with a cell come exactly where they come of the run (`solve_in`), `Wide` with
 /// `Read` exactly where a number that is read at the end passes 126 bits, and `Memory` where memory runs out.
+/// No basis comes twice in a run, so `PivotLimit` never comes where `most_bases` of the numbers of rows and of
+/// columns is at most `most`.
 pub fn solve_answer<F: Fraction>(
     alloc: Global,
     work: &mut Work<F>,
-    problem: &Problem,
+    problem: &LentProblem,
     most: u32,
 ) -> Result<Answer, SolveError>
     requires room { HasRoom (length problem.now.target) (length problem.now.rows) work.old }
     requires most { most ≤ 4096 }
     ensures room { KeepsRoom work.old work.new }
     ensures exact { IsAnswer SolveError.Memory (answer_of (at_width F.WIDTH) problem.now most) result }
+    ensures meaning { IfOk result (Shows problem.now) }
+    ensures apart { HasNoBasisTwice exact problem.now }
+    ensures unlimited { IsUnlimited problem.now most → result ≡ Err SolveError.PivotLimit → ⊥ }
 {
-    match solve_in(work, problem, most) {
-        Ok(end) => read_end(
-            alloc,
-            work,
-            end,
-            problem.target.len() as u32,
-            problem.rows.len() as u32,
-        ),
+    let lines = problem.target().len() as u32;
+    let rows = problem.count();
+    match solve_lent(work, problem, most) {
+        Ok(end) => read_end(alloc, work, end, lines, rows),
         Err(SolveFault::PivotLimit) => Err(SolveError::PivotLimit),
         Err(SolveFault::Wide(wide)) => Err(SolveError::Wide(Spot::Cell(wide))),
     }

@@ -12,7 +12,7 @@ ghost use Rattle.pa_tableau.specs.Work.{HasRoom};
 ghost use Rattle.pa_replay.specs.Problem.{cost_in, first_costs, is_turned as is_turned_in, loaded, loaded_line, loaded_numbers, numbers_of, turned_number};
 ghost use Rattle.pa_bland.specs.Seen.{IsBegun, KeepsRoom, KeepsShape, valued_at, with_cell, with_line, with_sign};
 
-use crate::Problem;
+use crate::LentProblem;
 use pa_frac::{Fraction, Wide};
 use pa_tableau::{WideAt, Work};
 
@@ -39,13 +39,13 @@ fn turned(target: &[i128], line: usize, number: i128) -> i128
 
 // The number that a line begins with at a row: the row's number there, by the line's sign, or behind
 // the lines of the columns the row's bound.
-fn number_of(problem: &Problem, line: usize, row: usize) -> i128
+fn number_of(problem: &LentProblem, line: usize, row: usize) -> i128
     requires { row < length problem.now.rows }
     ensures { result ≡ number_at (numbers_of problem.now line) row }
 {
-    let own = &problem.rows[row];
-    if line < problem.target.len() {
-        turned(&problem.target, line, own.c[line])
+    let own = problem.row(row);
+    if line < problem.target().len() {
+        turned(problem.target(), line, own.c[line])
     } else {
         own.b
     }
@@ -77,7 +77,11 @@ fn load_number<F: Fraction>(
 }
 
 // Writes the whole numbers that a line begins with.
-fn load_numbers<F: Fraction>(work: &mut Work<F>, problem: &Problem, line: u32) -> Result<(), WideAt>
+fn load_numbers<F: Fraction>(
+    work: &mut Work<F>,
+    problem: &LentProblem,
+    line: u32,
+) -> Result<(), WideAt>
     requires line { line < work.old.lines + 2 }
     requires place { line < length work.old.table.lines }
     requires columns { length problem.now.rows < work.old.columns }
@@ -86,7 +90,7 @@ fn load_numbers<F: Fraction>(work: &mut Work<F>, problem: &Problem, line: u32) -
         (λ own. Ok (with_line work.old line (own ++ replicate (work.old.columns - length problem.now.rows) (whole (pos 0))))) }
     ensures shape { KeepsShape work.old work.new }
 {
-    for row in 0..problem.rows.len() as u32 {
+    for row in 0..problem.count() {
         let number = number_of(problem, line as usize, row as usize);
         load_number(work, line, row, number)?;
     }
@@ -106,7 +110,11 @@ fn turn_line<F: Fraction>(work: &mut Work<F>, target: &[i128], line: u32)
 }
 
 // Writes a line: the rows' numbers, 1 in its artificial column, and the target's number.
-fn load_line<F: Fraction>(work: &mut Work<F>, problem: &Problem, line: u32) -> Result<(), WideAt>
+fn load_line<F: Fraction>(
+    work: &mut Work<F>,
+    problem: &LentProblem,
+    line: u32,
+) -> Result<(), WideAt>
     requires begun { IsBegun (length problem.now.target) (length problem.now.rows) work.old }
     requires line { line < length problem.now.target }
     requires lines { length work.old.table.lines ≡ length problem.now.target + 2 }
@@ -116,16 +124,13 @@ fn load_line<F: Fraction>(work: &mut Work<F>, problem: &Problem, line: u32) -> R
         (λ cells. Ok (with_sign (with_line work.old line cells) line (is_turned_in problem.now.target line))) }
     ensures shape { KeepsShape work.old work.new }
 {
-    let lines = problem.target.len() as u32;
-    let rows = problem.rows.len() as u32;
-    turn_line(work, &problem.target, line);
+    let target = problem.target();
+    let lines = target.len() as u32;
+    let rows = problem.count();
+    turn_line(work, target, line);
     load_numbers(work, problem, line)?;
     work.set(line, rows + line, F::one());
-    let value = turned(
-        &problem.target,
-        line as usize,
-        problem.target[line as usize],
-    );
+    let value = turned(target, line as usize, target[line as usize]);
     load_number(work, line, lines + rows, value)
 }
 
@@ -179,14 +184,14 @@ fn load_first_costs<F: Fraction>(work: &mut Work<F>, lines: u32, rows: u32) -> R
 ///
 /// `WideAt` with pivot 0 names the first cell whose number passes: line by line, then cost row 2, then
 /// the running sums of cost row 1. The condition is that the work has room.
-pub(crate) fn load<F: Fraction>(work: &mut Work<F>, problem: &Problem) -> Result<(), WideAt>
+pub(crate) fn load<F: Fraction>(work: &mut Work<F>, problem: &LentProblem) -> Result<(), WideAt>
     requires { HasRoom (length problem.now.target) (length problem.now.rows) work.old }
     ensures table { left_by result work.new.table ≡ loaded (at_width F.WIDTH) problem.now }
     ensures begun { IsBegun (length problem.now.target) (length problem.now.rows) work.new }
     ensures room { KeepsRoom work.old work.new }
 {
-    let lines = problem.target.len() as u32;
-    let rows = problem.rows.len() as u32;
+    let lines = problem.target().len() as u32;
+    let rows = problem.count();
     work.begin(lines, rows);
     for line in 0..lines {
         load_line(work, problem, line)?;

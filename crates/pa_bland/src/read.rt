@@ -1,6 +1,7 @@
 // What is read at the end of a run: exact fractions, each by its numerator and denominator in lowest terms.
 ghost use Rattle.std.specs.Prelude.{◌≡◌, ◌≤◌, ◌<◌, ◌+◌, ◌++◌, ℤ, All, IfOk, MatchOption, map, false};
 ghost use Rattle.pa_frac.specs.Operations.{is_zero};
+ghost use Rattle.pa_frac.specs.Width.{Fits};
 ghost use Rattle.pa_math.specs.Answers.{IsAnswer, seen_as, told_as};
 ghost use Rattle.pa_row.specs.Answers.{as_fault};
 ghost use Rattle.pa_row.specs.Fractions.{HasFractions, IsFraction, fraction_of, point_of_weights, weights_in};
@@ -230,6 +231,7 @@ pub(crate) fn direction<F: Fraction>(
 ) -> Result<Vec<i128>, RowFault>
     requires begun { IsBegun lines rows work.now }
     ensures exact { IsAnswer RowFault.Memory (told_as as_fault (direction_answer lines rows work.now.table)) (seen_as (λ v. v.items) result) }
+    ensures narrow { IfOk result (λ v. All (Fits 126) v.items) }
 {
     let numbers = differences(alloc, work, lines, rows)?;
     direction_of(alloc, &numbers)

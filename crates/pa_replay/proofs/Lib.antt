@@ -39,3 +39,7 @@ pub mod Replays
 pub mod Degenerate
 pub mod Exact
 pub mod ReadWeights
+pub mod CommonPoints
+pub mod LeastShown
+pub mod NoWeightsShown
+pub mod EndlessShown

@@ -1,12 +1,13 @@
 -- The weights and the ray that are read are weights: positive fractions at ascending places below the number of rows. Whether the
 -- fractions fit is a matter of the arithmetic that the tableau came from, and is asked for here.
 use Rattle.std.proofs.Common.{◌≡◌, ℕ, zero, suc, ◌<◌, ◌≤◌, ◌+◌, ◌==◌, Bool, true, false, if◌then◌else◌, ℤ, pos, Option, Some, None}
-use Rattle.std.proofs.Common.{List, [], ◌∷◌, ◌++◌, flat_map, length, get_or, All, AllPairs, Ok, refl, sym, subst, ◌∙◌, ◌⊎◌, inl, inr, arith}
+use Rattle.std.proofs.Common.{List, [], ◌∷◌, ◌++◌, flat_map, length, map, get_or, All, AllPairs, Ok, refl, sym, subst, ◌∙◌, ◌⊎◌, inl, inr, arith}
 use Rattle.std.specs.List.{range_with_len}
 use Rattle.std.proofs.lemmas.Int.{ints}
 use Rattle.std.proofs.lemmas.List.Elements.{All-nil, All-cons}
 use Rattle.std.proofs.lemmas.Bool.Decides.{Decides-int_eq}
 use Rattle.std.specs.Ordering.{int_eq}
+use lib.IntN.{◌*ℤ◌}
 use lib.Signed.{◌<ℤ◌, ◌≤ℤ◌}
 use Rattle.pa_math.specs.Answers.{given}
 use Rattle.pa_math.specs.Rational.{ℚ, den, whole, neg_ℚ}
@@ -14,7 +15,9 @@ use Rattle.pa_math.specs.RationalOrder.{◌≤ℚ◌}
 use Rattle.pa_math.proofs.RationalOrders.{nonneg_num, whole-≤ℤ}
 use Rattle.pa_math.proofs.RationalTactics.{by_le, gap, reads}
 use Rattle.pa_frac.specs.Operations.{is_zero}
-use Rattle.pa_row.specs.Fractions.{AreWeights, IsFraction, WeightPart, fraction_of, placed}
+use Rattle.pa_ring.proofs.Integers.{positive-*ℤ, <ℤ-≤ℤ, ≤ℤ-*ℤ_cancel}
+use Rattle.pa_meaning.specs.Weights.{NoneNegative}
+use Rattle.pa_row.specs.Fractions.{AreOver, AreWeights, IsFraction, WeightPart, fraction_of, placed}
 use Rattle.pa_tableau.specs.Tableau.{Tableau, cell}
 use Rattle.pa_replay.specs.declared.«end».End.TheVariants.{Least, Endless}
 use Rattle.pa_replay.specs.Problem.{Problem}
@@ -25,6 +28,7 @@ use Rattle.pa_replay.proofs.Never.{falls_at}
 use Rattle.pa_replay.proofs.Runs.{first_present}
 use Rattle.pa_replay.proofs.Solved.{IsSolved}
 use Rattle.pa_replay.proofs.Weighted.{never_leaves}
+use Rattle.pa_replay.proofs.WeightSums.{ArePositive}
 
 from_later : (a b z : ℕ) (parts : List WeightPart) → a ≤ b → IsAscending b z parts → IsAscending a z parts
 from_later a b z [] low h = tt
@@ -155,3 +159,17 @@ endless_ascending p ended c s e =
     subst (Known (length p.target) (length p.rows) s.start ended.table) e s.known in
     let (inside, down, stuck) = falls_at (length p.target) (length p.rows) (length p.target + 1) c ended.table known.comes in
     ray_ascending (length p.target) (length p.rows) c ended.table stuck
+
+-- and so are their numerators over a positive denominator
+not_below : (n d num q : ℤ) → pos 0 <ℤ d → pos 0 <ℤ num → pos 0 <ℤ q → n *ℤ d ≡ num *ℤ q → pos 0 ≤ℤ n
+not_below n d num q d_up num_up up e =
+    let high : pos 0 ≤ℤ (n *ℤ d) = subst (λ t. pos 0 ≤ℤ t) (sym e) (<ℤ-≤ℤ (positive-*ℤ num q num_up up)) in
+    ≤ℤ-*ℤ_cancel (pos 0) n d d_up (subst (λ t. t ≤ℤ (n *ℤ d)) (omega (arith, ints)) high)
+
+pub none_negative : (a z : ℕ) (parts : List WeightPart) (q : ℤ) (ns : List ℤ) → IsAscending a z parts → ArePositive parts → pos 0 <ℤ q →
+    AreOver q (map fraction_of parts) ns → NoneNegative (placed parts ns)
+none_negative a z [] q ns h dens up over = All-nil (λ (part : ℕ × ℤ). pos 0 ≤ℤ part.1)
+none_negative a z (part ∷ parts) q [] h dens up over = absurd over
+none_negative a z (part ∷ parts) q (n ∷ ns) h dens up over =
+    All-cons (λ (part : ℕ × ℤ). pos 0 ≤ℤ part.1) (part.0, n) (placed parts ns) (not_below n part.2 part.1 q dens.0 h.2 up over.0)
+    (none_negative (part.0 + 1) z parts q ns h.3 dens.1 up over.1)

@@ -37,7 +37,7 @@ use Rattle.pa_replay.proofs.WholePoints.{HasSigns, over_at, signed_is, whole_sum
 abbrev pub direction_read : ℕ → ℕ → Tableau → ℕ → ℚ
 direction_read n m t k = signed t k (whole (pos 1) -ℚ cell t n (m + k))
 
-differences_are : (n m : ℕ) (t : Tableau) (a i r : ℕ) (fs : List (ℤ × ℤ)) →
+pub differences_are : (n m : ℕ) (t : Tableau) (a i r : ℕ) (fs : List (ℤ × ℤ)) →
     Ok fs ≡ each (λ i k. and_then (difference_in 126 (whole (pos 1)) (cell t n (m + k))) (λ d. Ok (numbers_in (signed t k d)))) i (range_with_len a r) →
     fs ≡ map numbers_in (map (direction_read n m t) (range_with_len a r))
 differences_are n m t a i zero fs h = ok_same fs [] h

@@ -14,26 +14,26 @@ pub load_line-requires-clause-clear : goal.load_line-requires-clause-clear
 load_line-requires-clause-clear g c =
     let A : Arithmetic = at_width g.F.Fraction.WIDTH in
     let p : Problem = c.args.problem.now in
-    let lines : c.len-lines.result ≡ length p.target = search (arith, c.len-lines.ensures, ap (λ (p : Problem). length p.target) c.problem.view_is) in
-    next_clear A p (begun_work c.args.work.now c.len-lines.result c.len-rows.result) c.loop-line.work c.loop-line.line c.loop-line.invariant
+    let lines : length c.target.result.now ≡ length p.target = ap length c.target.ensures.target in
+    next_clear A p (begun_work c.args.work.now (length c.target.result.now) c.count-rows.result) c.loop-line.work c.loop-line.line c.loop-line.invariant
     (let test = c.loop-line-test.true in omega (arith, test, lines))
 
 pub load_line-requires-clause-straight : goal.load_line-requires-clause-straight
 load_line-requires-clause-straight g c =
     let A : Arithmetic = at_width g.F.Fraction.WIDTH in
     let p : Problem = c.args.problem.now in
-    let lines : c.len-lines.result ≡ length p.target = search (arith, c.len-lines.ensures, ap (λ (p : Problem). length p.target) c.problem.view_is) in
-    next_straight A p (begun_work c.args.work.now c.len-lines.result c.len-rows.result) c.loop-line.work c.loop-line.line c.loop-line.invariant
+    let lines : length c.target.result.now ≡ length p.target = ap length c.target.ensures.target in
+    next_straight A p (begun_work c.args.work.now (length c.target.result.now) c.count-rows.result) c.loop-line.work c.loop-line.line c.loop-line.invariant
     (let test = c.loop-line-test.true in omega (arith, test, lines))
 
 pub returns-in_err-load_line-clause-table : goal.returns-in_err-load_line-clause-table
 returns-in_err-load_line-clause-table g c =
     let A : Arithmetic = at_width g.F.Fraction.WIDTH in
     let p : Problem = c.args.problem.now in
-    let lines : c.len-lines.result ≡ length p.target = search (arith, c.len-lines.ensures, ap (λ (p : Problem). length p.target) c.problem.view_is) in
+    let lines : length c.target.result.now ≡ length p.target = ap length c.target.ensures.target in
     let wide : WideAt = c.in_err-load_line.field-0.0 in
     let refused : loaded A p ≡ Err wide =
-    loading_refused A p (begun_work c.args.work.now c.len-lines.result c.len-rows.result)
+    loading_refused A p (begun_work c.args.work.now (length c.target.result.now) c.count-rows.result)
     c.loop-line.work c.load_line.new.work c.loop-line.line wide c.loop-line.invariant
     (let test = c.loop-line-test.true in omega (arith, test, lines)) c.in_err-load_line.ensures.exact in
     let told : c.from_residual.result ≡ Err wide = search rules in
@@ -43,8 +43,8 @@ pub loop-line-preserved : goal.loop-line-preserved
 loop-line-preserved g c =
     let A : Arithmetic = at_width g.F.Fraction.WIDTH in
     let p : Problem = c.args.problem.now in
-    let lines : c.len-lines.result ≡ length p.target = search (arith, c.len-lines.ensures, ap (λ (p : Problem). length p.target) c.problem.view_is) in
-    loading_turns A p (begun_work c.args.work.now c.len-lines.result c.len-rows.result)
+    let lines : length c.target.result.now ≡ length p.target = ap length c.target.ensures.target in
+    loading_turns A p (begun_work c.args.work.now (length c.target.result.now) c.count-rows.result)
     c.loop-line.work c.load_line.new.work c.loop-line.line c.in_ok-load_line.field-0 c.loop-line.invariant
     (let test = c.loop-line-test.true in omega (arith, test, lines)) c.in_ok-load_line.ensures.exact c.in_ok-load_line.ensures.shape
 
@@ -52,8 +52,8 @@ pub returns-in_err-load_numbers-clause-table : goal.returns-in_err-load_numbers-
 returns-in_err-load_numbers-clause-table g c =
     let A : Arithmetic = at_width g.F.Fraction.WIDTH in
     let p : Problem = c.args.problem.now in
-    let lines : c.len-lines.result ≡ length p.target = search (arith, c.len-lines.ensures, ap (λ (p : Problem). length p.target) c.problem.view_is) in
-    let start : Work = begun_work c.args.work.now c.len-lines.result c.len-rows.result in
+    let lines : length c.target.result.now ≡ length p.target = ap length c.target.ensures.target in
+    let start : Work = begun_work c.args.work.now (length c.target.result.now) c.count-rows.result in
     let end : c.loop-line.line ≡ length p.target = (let test = c.loop-line-test.false in let low = c.loop-line.auto.line-end in omega
     (arith, test, low, lines)) in
     let wide : WideAt = c.in_err-load_numbers.field-0.0 in
@@ -69,9 +69,9 @@ pub returns-clause-table : goal.returns-clause-table
 returns-clause-table g c =
     let A : Arithmetic = at_width g.F.Fraction.WIDTH in
     let p : Problem = c.args.problem.now in
-    let lines : c.len-lines.result ≡ length p.target = search (arith, c.len-lines.ensures, ap (λ (p : Problem). length p.target) c.problem.view_is) in
-    let rows : c.len-rows.result ≡ length p.rows = search (arith, c.len-rows.ensures, ap (λ (p : Problem). length p.rows) c.problem.view_is) in
-    let start : Work = begun_work c.args.work.now c.len-lines.result c.len-rows.result in
+    let lines : length c.target.result.now ≡ length p.target = ap length c.target.ensures.target in
+    let rows : c.count-rows.result ≡ length p.rows = c.count-rows.ensures.count in
+    let start : Work = begun_work c.args.work.now (length c.target.result.now) c.count-rows.result in
     let end : c.loop-line.line ≡ length p.target = (let test = c.loop-line-test.false in let low = c.loop-line.auto.line-end in omega
     (arith, test, low, lines)) in
     table_loaded A p start c.loop-line.work c.load_numbers.new.work c.load_first_costs.new.work c.in_ok-load_numbers.field-0 c.load_first_costs.result
