@@ -1,4 +1,5 @@
 pub mod Turns
+pub mod Opposites
 pub mod Lengths
 pub mod Made
 pub mod Exact

@@ -1,20 +1,13 @@
 -- One turn of each loop over rows.
-use Rattle.std.proofs.Common.{◌≡◌, ℕ, zero, suc, ◌<◌, ◌+◌, List, [], ◌∷◌, ◌++◌, take, drop, length, get_or, map, Bool, ◌&&◌}
+use Rattle.std.proofs.Common.{◌≡◌, ℕ, zero, suc, ◌<◌, ◌+◌, List, [], ◌∷◌, ◌++◌, take, drop, length, get_or, Bool}
 use Rattle.std.proofs.Common.{if◌then◌else◌, Some, refl, ap, add-one, int_lt}
 use Rattle.std.proofs.Math.Seq.{drop-cons}
-use Rattle.std.specs.Ordering.{int_eq}
-use Rattle.std.specs.Cmp.Lexicographic.{pointwise}
-use lib.IntN.{ℤ, pos, neg_ℤ}
+use lib.IntN.{ℤ, pos}
 use Rattle.pa_ring.specs.Sums.{number_at, without}
 use Rattle.pa_math.specs.Answers.{given}
 use Rattle.pa_meaning.specs.Rows.{Row}
 use Rattle.pa_witness.specs.Elimination.{positives_at, negatives_at}
 use Rattle.pa_witness.specs.Equalities.{place_from, opposite_of, equality_from}
-
--- a number and its negative
-pub opposite_turn : (xs ys : List ℤ) (i : ℕ) (x y : ℤ) → i < length xs → i < length ys → x ≡ get_or xs i x → y ≡ get_or ys i y →
-    pointwise int_eq (map neg_ℤ (drop i xs)) (drop i ys) ≡ (int_eq (neg_ℤ x) y && pointwise int_eq (map neg_ℤ (drop (i + 1) xs)) (drop (i + 1) ys))
-opposite_turn xs ys i x y h k x_is y_is = rw (add-one, drop-cons xs i x h, drop-cons ys i y k, ← x_is, ← y_is) refl
 
 -- one row of a search
 pub place_turn : (test : Row → Bool) (rows : List Row) (i : ℕ) (r : Row) → i < length rows → r ≡ get_or rows i r →

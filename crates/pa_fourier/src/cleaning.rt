@@ -165,6 +165,8 @@ fn staying(alloc: Global, rows: &[Row]) -> Result<Vec<Row>, CleanFault>
 /// and a negative bound, and else the rows with coefficients for which no other row stands in. Of
 /// parallel rows, whose coefficients are positive multiples of each other, the one with the least bound
 /// over the greatest common divisor of the coefficients stands in for the others, the first of equals.
+/// The steps of an elimination bring such needless rows, and to leave them out keeps its lists short
+/// (R. J. Duffin, On Fourier's Analysis of Linear Inequality Systems, 1974).
 /// The same points meet the result. The rows have this many columns, and there are fewer than `2^32 - 1`.
 /// `Wide` exactly where a comparison of two bounds reaches `2^126`, with the place of the first row that
 /// has such a one; `Memory` where memory runs out.

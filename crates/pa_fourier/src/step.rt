@@ -16,7 +16,7 @@ use crate::equality::equality_of;
 use crate::number::{number_in, remove_column};
 use crate::{StepFault, Version};
 use pa_row::{Row, RowFault, cancel};
-use std::alloc::Global;
+use std::alloc::{AllocError, Global};
 
 // How many rows are positive in the column, and how many negative.
 #[tactic(auto, using(crate::proofs::Turns::signs_turn))]
@@ -41,31 +41,43 @@ fn count_signs(rows: &[Row], column: u32) -> (u32, u32)
 }
 
 // The places of the equality that a step substitutes.
-fn equality_in(rows: &[Row], columns: u32, column: u32, version: Version) -> Option<(u32, u32)>
+fn equality_in(
+    alloc: Global,
+    rows: &[Row],
+    columns: u32,
+    column: u32,
+    version: Version,
+) -> Result<Option<(u32, u32)>, AllocError>
     requires columns { All (λ r. length r.c ≡ columns) rows.now }
     requires column { column < columns }
     requires few { length rows.now ≤ 4096 }
-    ensures { result ≡ spec.equality_in (version_of version) column rows.now }
+    ensures { IfOk result (λ found. found ≡ spec.equality_in (version_of version) column rows.now) }
 {
     match version {
-        Version::One => None,
-        Version::Two => equality_of(rows, columns, column),
+        Version::One => Ok(None),
+        Version::Two => equality_of(alloc, rows, columns, column),
     }
 }
 
 /// How many rows `step_rows` makes of these rows, without making one. There are at most 4,096 rows,
-/// of equally many columns.
-pub fn step_count(rows: &[Row], columns: u32, column: u32, version: Version) -> u32
+/// of equally many columns. Memory is taken for the search of an equality alone.
+pub fn step_count(
+    alloc: Global,
+    rows: &[Row],
+    columns: u32,
+    column: u32,
+    version: Version,
+) -> Result<u32, AllocError>
     requires columns { All (λ r. length r.c ≡ columns) rows.now }
     requires column { column < columns }
     requires few { length rows.now ≤ 4096 }
-    ensures { result ≡ length (stepped (version_of version) column rows.now) }
+    ensures { IfOk result (λ count. count ≡ length (stepped (version_of version) column rows.now)) }
 {
-    match equality_in(rows, columns, column, version) {
-        Some(_) => rows.len() as u32 - 2,
+    match equality_in(alloc, rows, columns, column, version)? {
+        Some(_) => Ok(rows.len() as u32 - 2),
         None => {
             let (positives, negatives) = count_signs(rows, column);
-            rows.len() as u32 - positives - negatives + positives * negatives
+            Ok(rows.len() as u32 - positives - negatives + positives * negatives)
         }
     }
 }
@@ -251,8 +263,11 @@ fn made_rows(
     requires few { length rows.now ≤ 4096 }
     ensures { IsAnswer StepFault.Memory (step_in (version_of version) column rows.now) (seen_as (λ v. v.items) result) }
 {
+    let Ok(equality) = equality_in(alloc, rows, columns, column, version) else {
+        return Err(StepFault::Memory);
+    };
     let kept = with_kept(alloc, Vec::new(alloc), rows, column)?;
-    match equality_in(rows, columns, column, version) {
+    match equality {
         Some((positive, negative)) => {
             let p = &rows[positive as usize];
             let n = &rows[negative as usize];
