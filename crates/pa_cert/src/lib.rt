@@ -25,3 +25,6 @@ pub use lists::{
 pub use refusal::NameRefusal;
 pub use table::Table;
 pub use write::{push_answer, push_end, push_first_line};
+
+#[cfg(test)]
+mod tests;

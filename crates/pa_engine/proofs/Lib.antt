@@ -1,4 +1,7 @@
-pub mod Lines
-pub mod Texts
-pub mod Endings
-pub mod Outcomes
+pub mod Puts
+pub mod Truths
+pub mod Scripts
+pub mod Turns
+pub mod Ends
+pub mod Diagrams
+pub mod Fetched
