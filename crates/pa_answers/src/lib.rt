@@ -12,6 +12,3 @@ mod point;
 
 pub use answer::answer_line;
 pub use laws::answers_are_true;
-
-#[cfg(test)]
-mod tests;

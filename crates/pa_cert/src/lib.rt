@@ -25,6 +25,3 @@ pub use lists::{
 pub use refusal::NameRefusal;
 pub use table::Table;
 pub use write::{push_answer, push_end, push_first_line};
-
-#[cfg(test)]
-mod tests;

@@ -1,7 +1,4 @@
-pub mod Puts
-pub mod Truths
-pub mod Scripts
-pub mod Turns
-pub mod Ends
-pub mod Diagrams
-pub mod Fetched
+pub mod Lines
+pub mod Texts
+pub mod Endings
+pub mod Outcomes

@@ -1,6 +1,7 @@
--- What the program does: its words, its inputs, the answers, and how a run ends.
 pub mod Words
-pub mod Inputs
+pub mod Script
 pub mod Answers
+pub mod Report
 pub mod Statuses
-pub mod Ends
+pub mod Outcome
+pub mod Ending

@@ -1,198 +1,84 @@
-// The answer to a script line.
-ghost use Rattle.std.specs.Prelude.{◌≡◌, IfOk, true, length};
-ghost use Rattle.std.specs.Option.{option_copied};
-ghost use Rattle.pa_meaning.specs.Contracts.{ports};
-ghost use Rattle.pa_contract.specs.Merge.{merge_of};
-ghost use Rattle.pa_contract.specs.Testing.{tested};
-ghost use Rattle.pa_script.specs.Ops.{is_built, IsWellFormedOp};
-ghost use Rattle.pa_cert.specs.Tables.{CanAdvance};
-ghost use Rattle.pa_holds.specs.Refusals.{first_missing};
-ghost use Rattle.pa_holds.specs.Tables.{IsTrueOf};
+// Answers.
+ghost use Rattle.std.specs.Prelude.{◌≡◌, IfOk, IfSome, option_map};
 ghost use Rattle.pa_engine.specs.Answers as spec;
-ghost use Rattle.pa_engine.specs.Answers.{AreFormed};
 
-use crate::point::at_ports;
-use pa_cert::{Answer, LineAnswer, NameRefusal, Table};
-use pa_contract::{Contract, MergeFault, TestFault, merge, test};
-use pa_names::{Name, Names};
-use pa_row::Point;
-use pa_script::{Op, ScriptLine};
+use crate::{Op, ScriptLine};
+use pa_contract::{Contract, MergeFault, merge};
+use pa_json::Diagram;
+use pa_names::Name;
 use std::alloc::{AllocError, Global};
 
-// A refusal by names, ports or counts.
-fn refused(refusal: NameRefusal) -> LineAnswer
-    ensures { result ≡ LineAnswer.Answered (Answer.Refused refusal) }
-{
-    LineAnswer::Answered {
-        answer: Answer::Refused { refusal },
-    }
+/// What a script line is answered.
+#[derive(Drop)]
+pub enum Answer {
+    /// The merge.
+    Merged { contract: Contract },
 }
 
-// The merge of two contracts, or its refusal.
-fn merged(alloc: Global, a: &Contract, b: &Contract) -> Result<LineAnswer, AllocError>
-    ensures { IfOk result (λ answer. answer ≡ spec.merge_answer (merge_of a.now b.now)) }
+/// A script line with its answer.
+#[derive(Drop)]
+pub struct Answered {
+    pub line: ScriptLine,
+    pub answer: Answer,
+}
+
+// The contract of a name.
+fn contract_named<'a>(diagram: &'a Diagram, name: &Name) -> Option<&'a Contract>
+    ensures { option_map (λ c. c.now) result ≡ spec.contract_named name.now diagram.now }
+{
+    let named = diagram.contracts.iter().find(|named| named.name == *name)?;
+    Some(&named.contract)
+}
+
+// The merge of two contracts, if they have one.
+fn merged(alloc: Global, a: &Contract, b: &Contract) -> Result<Option<Answer>, AllocError>
+    ensures answer { IfOk result (λ found. found ≡ spec.merged a.now b.now) }
+    ensures truth { IfOk result (λ found. IfSome found (spec.IsMergeAnswer a.now b.now)) }
 {
     match merge(alloc, a, b) {
-        Ok(contract) => Ok(LineAnswer::Answered {
-            answer: Answer::Merged { contract },
-        }),
+        Ok(contract) => Ok(Some(Answer::Merged { contract })),
         Err(MergeFault::Memory) => Err(AllocError),
-        Err(MergeFault::PortClash { name }) => Ok(refused(NameRefusal::PortClash { name })),
-        Err(MergeFault::VariableLimit { count }) => Ok(refused(NameRefusal::Variables { count })),
-        Err(MergeFault::Load { count }) => Ok(refused(NameRefusal::Rows { count })),
+        Err(_) => Ok(None),
     }
 }
 
-// The answer that no contract has the name.
-fn unknown(alloc: Global, name: &Name) -> Result<LineAnswer, AllocError>
-    ensures { IfOk result (λ answer. answer ≡ LineAnswer.Unknown name.now) }
-{
-    match name.copy(alloc) {
-        Ok(name) => Ok(LineAnswer::Unknown { name }),
-        Err(_) => Err(AllocError),
-    }
-}
-
-// The answer that a contract has the name of the result.
-fn taken(alloc: Global, name: &Name) -> Result<LineAnswer, AllocError>
-    ensures { IfOk result (λ answer. answer ≡ LineAnswer.Taken name.now) }
-{
-    match name.copy(alloc) {
-        Ok(name) => Ok(LineAnswer::Taken { name }),
-        Err(_) => Err(AllocError),
-    }
-}
-
-// The answer to a merge.
-#[tactic(auto, using(crate::proofs::Truths::merge_given))]
-fn merge_line(
+// The answer to the merge of two contracts under a name, if they are there and the name is free.
+fn merge_named(
     alloc: Global,
-    table: &Table,
+    diagram: &Diagram,
     name: &Name,
     left: &Name,
     right: &Name,
-) -> Result<LineAnswer, AllocError>
-    ensures { IfOk result (λ answer. answer ≡ spec.answer_of table.now (Op.Merge name.now left.now right.now)) }
+) -> Result<Option<Answer>, AllocError>
+    ensures answer { IfOk result (λ found. found ≡ spec.merge_named diagram.now name.now left.now right.now) }
+    ensures truth { IfOk result (λ found. IfSome found (spec.IsTrueAnswer diagram.now (Op.Merge name.now left.now right.now))) }
 {
-    let Some(a) = table.find(left) else {
-        return unknown(alloc, left);
+    let Some(a) = contract_named(diagram, left) else {
+        return Ok(None);
     };
-    let Some(b) = table.find(right) else {
-        return unknown(alloc, right);
+    let Some(b) = contract_named(diagram, right) else {
+        return Ok(None);
     };
-    if table.find(name).is_some() {
-        return taken(alloc, name);
+    if contract_named(diagram, name).is_some() {
+        return Ok(None);
     }
     merged(alloc, a, b)
 }
 
-// The first of the names that is no port.
-fn first_missing_port<'a>(contract: &Contract, names: &'a Names) -> Option<&'a Name>
-    ensures { option_copied result ≡ first_missing (ports contract.now) names.now }
-{
-    for place in 0..names.len() {
-        let name = names.at(place);
-        if contract.column(name).is_none() {
-            return Some(name);
-        }
-    }
-    None
-}
-
-// The answer that a name is no port.
-fn unknown_port(alloc: Global, name: &Name) -> Result<LineAnswer, AllocError>
-    ensures { IfOk result (λ answer. answer ≡ LineAnswer.Answered (Answer.Refused (NameRefusal.UnknownPort name.now))) }
-{
-    match name.copy(alloc) {
-        Ok(name) => Ok(refused(NameRefusal::UnknownPort { name })),
-        Err(_) => Err(AllocError),
-    }
-}
-
-// What a contract is at a point over its ports.
-fn tested_at(alloc: Global, contract: &Contract, at: &Point) -> Result<LineAnswer, AllocError>
-    requires { length at.now.p ≡ length (ports contract.now) }
-    ensures { IfOk result (λ answer. answer ≡ spec.words_answer (tested contract.now at.now)) }
-{
-    match test(alloc, contract, at) {
-        Ok(tested) => Ok(LineAnswer::Answered {
-            answer: Answer::TestedAs { tested },
-        }),
-        Err(TestFault::Memory) => Err(AllocError),
-        Err(TestFault::Wide(place)) => Ok(LineAnswer::Answered {
-            answer: Answer::TooWide { place },
-        }),
-    }
-}
-
-// The answer to a test of a contract.
-fn test_of(
+/// The answer to a script line over the contracts of a diagram, if it has one.
+pub(crate) fn answer_line(
     alloc: Global,
-    contract: &Contract,
-    names: &Names,
-    at: &Point,
-) -> Result<LineAnswer, AllocError>
-    ensures { IfOk result (λ answer. answer ≡ spec.test_answer contract.now names.now at.now) }
+    diagram: &Diagram,
+    line: &ScriptLine,
+) -> Result<Option<Answer>, AllocError>
+    ensures answer { IfOk result (λ found. found ≡ spec.answer_of diagram.now line.now) }
+    ensures truth { IfOk result (λ found. IfSome found (spec.IsTrueAnswer diagram.now line.now.op)) }
 {
-    if let Some(name) = first_missing_port(contract, names) {
-        return unknown_port(alloc, name);
-    }
-    let at = at_ports(alloc, contract, names, at)?;
-    tested_at(alloc, contract, &at)
-}
-
-// The answer to a test.
-#[tactic(auto, using(crate::proofs::Truths::test_given))]
-fn test_line(
-    alloc: Global,
-    table: &Table,
-    of: &Name,
-    names: &Names,
-    at: &Point,
-) -> Result<LineAnswer, AllocError>
-    ensures { IfOk result (λ answer. answer ≡ spec.answer_of table.now (Op.Test of.now names.now at.now)) }
-{
-    match table.find(of) {
-        Some(contract) => test_of(alloc, contract, names, at),
-        None => unknown(alloc, of),
-    }
-}
-
-// The answer to the line's operation.
-fn answer_op(alloc: Global, table: &Table, op: &Op) -> Result<LineAnswer, AllocError>
-    requires { is_built op.now ≡ true }
-    ensures { IfOk result (λ answer. answer ≡ spec.answer_of table.now op.now) }
-{
-    match op {
-        Op::LimitRows { .. } | Op::LimitPivots { .. } => Ok(LineAnswer::Set),
+    match &line.op {
         Op::Merge {
             result,
             left,
             right,
-        } => merge_line(alloc, table, result, left, right),
-        Op::Test { of, names, at } => test_line(alloc, table, of, names, at),
-        Op::Refine { .. }
-        | Op::Bound { .. }
-        | Op::Hide { .. }
-        | Op::Compose { .. }
-        | Op::Quotient { .. } => unreachable!(),
+        } => merge_named(alloc, diagram, result, left, right),
     }
-}
-
-/// The answer to a script line over the table. A refusal by names comes first: a contract that is not
-/// there (`Unknown`), then a result's name that is not free (`Taken`); then what the operation refuses or
-/// gives. The line asks for an operation that is built, and is well formed. The answer is true of a table of
-/// well-formed contracts, and the table can go past it.
-pub fn answer_line(
-    alloc: Global,
-    table: &Table,
-    line: &ScriptLine,
-) -> Result<LineAnswer, AllocError>
-    requires built { is_built line.now.op ≡ true }
-    requires well_formed { IsWellFormedOp line.now.op }
-    ensures answer { IfOk result (λ answer. answer ≡ spec.answer_of table.now line.now.op) }
-    ensures truth { AreFormed table.now → IfOk result (IsTrueOf table.now line.now.op) }
-    ensures advances { IfOk result (CanAdvance table.now line.now.op) }
-{
-    answer_op(alloc, table, &line.op)
 }

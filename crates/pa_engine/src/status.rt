@@ -1,9 +1,6 @@
 // How a run ends.
 ghost use Rattle.std.specs.Prelude.{◌≡◌};
-ghost use Rattle.pa_engine.specs.Statuses.{number_of};
-
-use pa_json::DiagramFault;
-use pa_script::ScriptFault;
+ghost use Rattle.pa_engine.specs.Statuses.{number_of, line_of};
 
 /// One of the inputs.
 #[derive(Clone, Copy, Debug, PartialEq, Eq)]
@@ -15,21 +12,17 @@ pub enum Which {
 }
 
 /// Why an input is refused.
-#[derive(Drop)]
+#[derive(Clone, Copy, Debug, PartialEq, Eq)]
 pub enum InputFault {
-    /// The diagram is refused. The fault is never `Memory`.
-    BadDiagram(DiagramFault),
-    /// The script is refused. The fault is never `Memory`.
-    BadScript(ScriptFault),
+    /// The input is not of the form that is read so far.
+    Early(Which),
 }
 
 /// How a run ends.
-#[derive(Drop)]
+#[derive(Clone, Copy, Debug, PartialEq, Eq)]
 pub enum Status {
-    /// Both inputs were read to their end, the report was taken whole, and no answer is a refusal.
+    /// Both inputs were read to their end, and the report was taken whole.
     Done,
-    /// As `Done`, but at least one answer is a refusal.
-    Refused,
     /// An input is refused; its line was written.
     Input(InputFault),
     /// The words are not accepted; the usage line was written.
@@ -48,11 +41,24 @@ pub fn status_number(status: &Status) -> u8
 {
     match status {
         Status::Done => 0,
-        Status::Refused => 1,
         Status::Input(_) => 2,
         Status::Usage => 3,
         Status::ReadFault(_) => 4,
         Status::WriteFault => 5,
         Status::Memory => 6,
+    }
+}
+
+// The line of a status, for those that have one.
+pub(crate) fn line_of_status(status: &Status) -> &'static str
+    ensures { result.now ≡ line_of status.now }
+{
+    match status {
+        Status::Input(InputFault::Early(Which::Diagram)) => "input: diagram early\n",
+        Status::Input(InputFault::Early(Which::Script)) => "input: script early\n",
+        Status::Usage => "usage: pacti DIAGRAM SCRIPT\n",
+        Status::ReadFault(Which::Diagram) => "read fault: diagram\n",
+        Status::ReadFault(Which::Script) => "read fault: script\n",
+        Status::Done | Status::WriteFault | Status::Memory => "",
     }
 }

@@ -1,27 +1,17 @@
-//! Reads a diagram, which is JSON, into contracts by their names, parts and nominal values.
-//!
-//! What it promises: each diagram is read exactly as the format says, and of any other text the first fault
-//! is told, in the order of the format's tests, with the path of its place. Read first: `specs/Diagram.antt`
-//! for the diagram that a text describes, and then [`read_diagram`].
+//! Reads a diagram, which is JSON, into contracts by their names.
 #![tactic(auto)]
 
 mod contract;
 mod diagram;
 mod fault;
-mod keeping;
-mod layout;
-mod limits;
 mod member;
 mod named;
-mod part;
 mod path;
-mod ports;
 mod rows;
-mod values;
 
-pub use diagram::{Diagram, read_diagram};
-pub use fault::{DiagramFault, MakeKind, WireKind};
-pub use limits::MOST_DIAGRAM_BYTES;
+pub use diagram::{Diagram, MOST_DIAGRAM_BYTES, read_diagram};
+pub use fault::{DiagramFault, MakeKind};
+pub use named::Named;
 pub use path::Path;
 
 #[cfg(test)]

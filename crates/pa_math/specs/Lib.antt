@@ -1,5 +1,4 @@
 pub mod Answers
-pub mod Steps
 pub mod Lists
 pub mod Divisors
 pub mod LowestTerms

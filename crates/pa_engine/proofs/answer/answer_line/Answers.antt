@@ -1,9 +1,0 @@
-use Rattle.pa_engine.proofs.Truths.{if_ok_true, if_ok_advances}
-use Rattle.pa_engine.proofs.answer.answer_line.Goals as goal
-
-pub returns-clause-truth : goal.returns-clause-truth
-returns-clause-truth c formed =
-    if_ok_true c.args.table.now c.args.line.now.op c.requires.built c.requires.well_formed c.answer_op.result c.answer_op.ensures formed
-
-pub returns-clause-advances : goal.returns-clause-advances
-returns-clause-advances c = if_ok_advances c.args.table.now c.args.line.now.op c.answer_op.result c.answer_op.ensures
