@@ -1,5 +1,6 @@
 -- The texts of answers and of the report. Each definition is a line, or lines, of the report.
-use Rattle.std.specs.Prelude.{ℕ, ◌+◌, ℤ, List, [], ◌∷◌, ◌++◌, codes, decimal, length, flat_map, Bool, false, Option, Some, None, if◌then◌else◌, slice_get, unwrap_or}
+use Rattle.std.specs.Prelude.{ℕ, ◌+◌, ℤ, List, [], ◌∷◌, ◌++◌, codes, decimal, length}
+use Rattle.std.specs.Prelude.{flat_map, Bool, false, Option, Some, None, if◌then◌else◌, slice_get, unwrap_or}
 use Rattle.std.specs.Fmt.{signed_decimal}
 use Rattle.pa_meaning.specs.Rows.{Row}
 use Rattle.pa_meaning.specs.Weights.{Weights}
@@ -16,7 +17,8 @@ use Rattle.pa_cert.specs.PlaceText.{task_line, too_wide_line}
 use Rattle.pa_cert.specs.declared.refusal.NameRefusal.{NameRefusal}
 use Rattle.pa_cert.specs.declared.refusal.NameRefusal.TheVariants.{UnknownPort, PortClash, NotOutput, PortsDiffer, Variables, Rows}
 use Rattle.pa_cert.specs.declared.answer.Answer.{Answer}
-use Rattle.pa_cert.specs.declared.answer.Answer.TheVariants.{Merged, TestedAs, Yes, NoAssumption, NoGuarantee, Value, Unbounded, Nothing, Hidden, Composed, Divided, Refused, NoMultipliers, NoMultipliersFor, Circle, RowLimit, PivotLimit, TooWide}
+use Rattle.pa_cert.specs.declared.answer.Answer.TheVariants.{Merged, TestedAs, Yes, NoAssumption, NoGuarantee, Value, Unbounded, Nothing}
+use Rattle.pa_cert.specs.declared.answer.Answer.TheVariants.{Hidden, Composed, Divided, Refused, NoMultipliers, NoMultipliersFor, Circle, RowLimit, PivotLimit, TooWide}
 use Rattle.pa_cert.specs.declared.answer.LineAnswer.{LineAnswer}
 use Rattle.pa_cert.specs.declared.answer.LineAnswer.TheVariants.{Set, Unknown, Taken, Answered as AnsweredBy}
 

@@ -9,7 +9,8 @@ use Rattle.pa_script.specs.declared.op.Op.{Op}
 use Rattle.pa_script.specs.declared.op.Op.TheVariants.{LimitRows, LimitPivots}
 use Rattle.pa_script.specs.Ops.{result_of}
 use Rattle.pa_cert.specs.declared.answer.Answer.{Answer}
-use Rattle.pa_cert.specs.declared.answer.Answer.TheVariants.{Merged, Hidden, Composed, Divided, Refused, NoMultipliers, NoMultipliersFor, Circle, RowLimit, PivotLimit, TooWide}
+use Rattle.pa_cert.specs.declared.answer.Answer.TheVariants.{Merged, Hidden, Composed, Divided, Refused}
+use Rattle.pa_cert.specs.declared.answer.Answer.TheVariants.{NoMultipliers, NoMultipliersFor, Circle, RowLimit, PivotLimit, TooWide}
 use Rattle.pa_cert.specs.declared.answer.LineAnswer.{LineAnswer}
 use Rattle.pa_cert.specs.declared.answer.LineAnswer.TheVariants.{Set, Unknown, Taken, Answered as AnsweredBy}
 
