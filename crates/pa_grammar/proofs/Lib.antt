@@ -33,6 +33,7 @@ pub mod Valued
 pub mod Languages
 pub mod RefusedExamples
 pub mod Sizes
+pub mod FixedValues
 pub mod Literals
 pub mod Answered
 pub mod Longest

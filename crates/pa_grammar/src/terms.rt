@@ -7,7 +7,7 @@ ghost use Rattle.pa_grammar.specs.Parsed.{IsRefused};
 ghost use Rattle.pa_grammar.specs.Scopes.{scope_with};
 ghost use Rattle.pa_grammar.specs.Sized.{AreFixed};
 ghost use Rattle.pa_grammar.specs.Texts as spec;
-ghost use Rattle.pa_grammar.specs.Texts.{IsConstant};
+ghost use Rattle.pa_row.specs.Fractions.{IsFraction};
 
 use crate::fault::TermFault;
 use crate::lexer::{Constants, tokens};
@@ -40,7 +40,7 @@ fn rows_with(
 /// the first pair changes slowest; two comparisons for an equation.
 ///
 /// The conditions: at most 4,096 bytes, and each constant's value is in lowest terms, with a numerator and
-/// a denominator of at most `10^36` in size. A name that is a constant's is no variable.
+/// a denominator below `2^126` in size. A name that is a constant's is no variable.
 ///
 /// # Errors
 ///
@@ -56,7 +56,7 @@ pub fn read_term_with(
     constants: &Constants,
 ) -> Result<Vec<Row>, TermFault>
     requires short { length text.now ≤ most_text }
-    requires constants { All IsConstant constants.now.values.items }
+    requires constants { All IsFraction constants.now.values.items }
     ensures answer { IsAnswer TermFault.Memory (spec.term_answer (scope_with names.now constants.now) text.now) (seen_as (λ v. v.items) result) }
     // The rows are those of a term that the text is, and of a text that is a term without a fault they are the answer.
     ensures rows { IfOk result (λ rows. spec.AreRowsOf (scope_with names.now constants.now) text.now rows.items) }

@@ -1,4 +1,5 @@
 pub mod Answers
+pub mod Steps
 pub mod Lists
 pub mod Divisors
 pub mod LowestTerms

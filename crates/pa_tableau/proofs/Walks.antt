@@ -3,26 +3,13 @@ use Rattle.std.proofs.Common.{◌≡◌, ℕ, suc, ◌<◌, ◌≤◌, ◌+◌, 
 use Rattle.std.proofs.Common.{Result, Ok, Err, refl, sym, ap, ◌∙◌, arith, add-one, drop-cons, take-suc-set, drop-set-lt, take_all}
 use Rattle.std.proofs.lemmas.List.{drop_all, append-nil}
 use Rattle.pa_math.specs.Answers.{and_then}
+pub use Rattle.pa_math.specs.Steps.{behind}
+pub use Rattle.pa_math.proofs.Answers.{ok_same}
 use Rattle.pa_tableau.specs.Arithmetic.{each, left_by}
-
--- what is written, and what the other steps give
-abbrev pub behind : {B E : Type 0} → List B → Result (List B) E → Result (List B) E
-behind done rest = and_then rest (λ ys. Ok (done ++ ys))
 
 pub behind_none : {B E : Type 0} (r : Result (List B) E) → behind [] r ≡ r
 behind_none (Ok ys) = refl
 behind_none (Err e) = refl
-
-abbrev ok_of : {A E : Type 0} → A → Result A E
-ok_of x = Ok x
-
-abbrev either_of : {A E : Type 0} → Result A E → A → A
-either_of (Ok x) y = x
-either_of (Err e) y = y
-
--- equal answers give equal values
-pub ok_same : {A E : Type 0} (x y : A) → ok_of {E = E} x ≡ Ok y → x ≡ y
-ok_same x y h = ap (λ r. either_of r x) h
 
 -- a step that gives a value
 pub behind_more : {A B E : Type 0} (step : ℕ → A → Result B E) (done : List B) (i : ℕ) (x : A) (xs : List A) (y : B) → step i x ≡ Ok y →

@@ -2,11 +2,11 @@
 use Rattle.pa_grammar.specs.Scopes.{scope_with}
 use Rattle.pa_grammar.proofs.TermAnswers.{rows_clause, only_rows, meaning_clause, syntax_is, syntax_due, literal_is, literal_due}
 use Rattle.pa_grammar.proofs.TermAnswers.{unknown_is, unknown_due, not_linear_is, not_linear_due, wide_is, wide_due}
-use Rattle.pa_grammar.proofs.Sizes.{constants_fixed}
+use Rattle.pa_grammar.proofs.FixedValues.{fractions_fixed}
 use Rattle.pa_grammar.proofs.terms.read_term_with.Goals as goal
 
 pub rows_with-requires-clause-fixed : goal.rows_with-requires-clause-fixed
-rows_with-requires-clause-fixed c = constants_fixed c.args.constants.now.values.items c.requires.constants
+rows_with-requires-clause-fixed c = fractions_fixed c.args.constants.now.values.items c.requires.constants
 
 pub returns-clause-rows : goal.returns-clause-rows
 returns-clause-rows c =
