@@ -21,7 +21,7 @@ use Rattle.pa_contract.proofs.Words.{tested_is_tested}
 use Rattle.pa_script.specs.declared.op.ScriptLine.{ScriptLine}
 use Rattle.pa_script.specs.declared.op.Op.{Op}
 use Rattle.pa_script.specs.declared.op.Op.TheVariants.{LimitRows, LimitPivots, Merge, Test, Refine, Bound, Hide, Compose, Quotient}
-use Rattle.pa_script.specs.Ops.{operands, result_of, is_built, IsPointOf, IsWellFormedOp, IsWellFormedLine}
+use Rattle.pa_script.specs.Ops.{operands, result_of, IsPointOf, IsWellFormedOp, IsWellFormedLine}
 use Rattle.pa_cert.specs.declared.refusal.NameRefusal.TheVariants.{UnknownPort, PortClash, Variables, Rows}
 use Rattle.pa_cert.specs.declared.answer.Answer.TheVariants.{Merged, TestedAs, Refused, TooWide}
 use Rattle.pa_cert.specs.declared.answer.LineAnswer.{LineAnswer}
@@ -36,6 +36,7 @@ use Rattle.pa_holds.proofs.Lookups.{test_lacks, test_line_is_true}
 use Rattle.pa_holds.proofs.Merging.{none_due, merge_is_true, clash_is_true, many_ports_is_true, many_rows_is_true}
 use Rattle.pa_holds.proofs.Tested.{test_answer_is_true, wide_test_is_true, unknown_port_is_true}
 use Rattle.pa_holds.proofs.Stays.{IsMergeAtMost, true_table_stays}
+use Rattle.pa_answers.specs.Built.{is_built}
 use Rattle.pa_answers.specs.Answers.{merge_answer, words_answer, test_answer, at_ports, answer_on, answer_of, answers_from, past, AreFormed}
 
 -- an answer that is true, and that has a contract only where it is a merge

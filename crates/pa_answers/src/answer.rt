@@ -5,12 +5,13 @@ ghost use Rattle.pa_meaning.specs.Contracts.{ports};
 ghost use Rattle.pa_meaning.specs.Composition.{is_among};
 ghost use Rattle.pa_contract.specs.Merge.{merge_of};
 ghost use Rattle.pa_contract.specs.Testing.{tested};
-ghost use Rattle.pa_script.specs.Ops.{is_built, IsWellFormedOp};
+ghost use Rattle.pa_script.specs.Ops.{IsWellFormedOp};
 ghost use Rattle.pa_cert.specs.Tables.{CanAdvance};
 ghost use Rattle.pa_holds.specs.Refusals.{first_missing};
 ghost use Rattle.pa_holds.specs.Tables.{IsTrueOf};
 ghost use Rattle.pa_answers.specs.Answers as spec;
 ghost use Rattle.pa_answers.specs.Answers.{AreFormed};
+ghost use Rattle.pa_answers.specs.Built.{is_built};
 
 use crate::point::at_ports;
 use pa_cert::{Answer, LineAnswer, NameRefusal, Table};

@@ -1,5 +1,5 @@
 -- What a line names.
-use Rattle.std.specs.Prelude.{◌≡◌, ◌≤◌, List, [], ◌∷◌, length, Option, Some, None, Bool, true, false, pos, ◌<ℤ◌}
+use Rattle.std.specs.Prelude.{◌≡◌, ◌≤◌, List, [], ◌∷◌, length, Option, Some, None, pos, ◌<ℤ◌}
 use Rattle.std.specs.List.{IsDistinct}
 use Rattle.std.specs.Str.{bytes_eq}
 use Rattle.pa_meaning.specs.Contracts.{Name}
@@ -34,18 +34,6 @@ result_of (Bound of least goal) = None
 result_of (Hide result of names) = Some result
 result_of (Compose result parts keep) = Some result
 result_of (Quotient result whole part) = Some result
-
--- whether the operation is built so far
-abbrev pub is_built : Op → Bool
-is_built (LimitRows most) = true
-is_built (LimitPivots most) = true
-is_built (Merge result left right) = true
-is_built (Test of names at) = true
-is_built (Refine left right) = false
-is_built (Bound of least goal) = false
-is_built (Hide result of names) = false
-is_built (Compose result parts keep) = false
-is_built (Quotient result whole part) = false
 
 -- the names of a point are different, and it has a number for each, over a positive denominator
 pub record IsPointOf (names : List Name) (at : Point) : Type 0 where

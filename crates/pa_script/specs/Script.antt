@@ -1,13 +1,12 @@
 -- The lines of a script, or its first faulty line.
 use Rattle.std.specs.Prelude.{ℕ, ◌+◌, ◌-◌, ◌==◌, ◌||◌, ◌&&◌, List, [], ◌∷◌, ◌++◌, length, take, nat_lt, nat_le, Bool, not, Result, Ok, Err, if◌then◌else◌}
-use Rattle.std.specs.List.{slice_split, list_all}
+use Rattle.std.specs.List.{slice_split}
 use Rattle.std.specs.Prelude.{slice_index}
 use Rattle.pa_math.specs.Answers.{and_then}
 use Rattle.pa_script.specs.declared.fault.ScriptFault.{ScriptFault}
-use Rattle.pa_script.specs.declared.fault.ScriptFault.TheVariants.{TooLong, Line, Early}
+use Rattle.pa_script.specs.declared.fault.ScriptFault.TheVariants.{TooLong, Line}
 use Rattle.pa_script.specs.declared.fault.LineKind.TheVariants as kind
 use Rattle.pa_script.specs.declared.op.ScriptLine.{ScriptLine}
-use Rattle.pa_script.specs.Ops.{is_built}
 use Rattle.pa_script.specs.Words.{is_there, first_word}
 use Rattle.pa_script.specs.declared.read.TheConstants.{MOST_LINES, MOST_SCRIPT}
 use Rattle.pa_script.specs.declared.op.Op.{Op}
@@ -55,13 +54,6 @@ with_line lines line = if is_skipped line.1 then Ok lines else with_words lines 
 abbrev pub with_pieces : List (List ℕ) → Result (List ScriptLine) ScriptFault
 with_pieces pieces = each with_line [] (numbered 1 pieces)
 
--- the lines of a text that are not skipped, by the whole grammar
-abbrev pub all_lines : List ℕ → Result (List ScriptLine) ScriptFault
-all_lines bytes = if nat_lt most_bytes (length bytes) then Err TooLong else with_pieces (slice_split (λ b. b == 10) bytes)
-
--- the lines, where each asks for an operation that is built
-abbrev pub when_built : List ScriptLine → Result (List ScriptLine) ScriptFault
-when_built lines = if list_all (λ line. is_built line.op) lines then Ok lines else Err Early
-
+-- the lines of a text that are not skipped
 abbrev pub script_of : List ℕ → Result (List ScriptLine) ScriptFault
-script_of bytes = and_then (all_lines bytes) when_built
+script_of bytes = if nat_lt most_bytes (length bytes) then Err TooLong else with_pieces (slice_split (λ b. b == 10) bytes)

@@ -1,9 +1,9 @@
 // Reading a script.
 ghost use Rattle.std.specs.Prelude.{◌≡◌, ◌≤◌, ◌+◌, ◌==◌, IfOk, Ok, map, length};
-ghost use Rattle.std.specs.List.{slice_split, list_all};
+ghost use Rattle.std.specs.List.{slice_split};
 ghost use Rattle.pa_math.specs.Answers.{IsAnswer};
 ghost use Rattle.pa_script.specs.Script as spec;
-ghost use Rattle.pa_script.specs.Ops.{is_built, IsWellFormedOp};
+ghost use Rattle.pa_script.specs.Ops.{IsWellFormedOp};
 
 use crate::lines::read_op;
 use crate::words::split_word;
@@ -40,19 +40,6 @@ fn is_skipped(line: &[u8]) -> bool
 {
     let word = split_word(line).0;
     word.is_empty() || word[0] == b'#'
-}
-
-fn is_op_built(op: &Op) -> bool
-    ensures { result ≡ is_built op.now }
-{
-    match op {
-        Op::LimitRows { .. } | Op::LimitPivots { .. } | Op::Merge { .. } | Op::Test { .. } => true,
-        Op::Refine { .. }
-        | Op::Bound { .. }
-        | Op::Hide { .. }
-        | Op::Compose { .. }
-        | Op::Quotient { .. } => false,
-    }
 }
 
 // The line that a piece between line feeds is. The last piece has no line feed behind it.
@@ -128,42 +115,16 @@ fn with_pieces(alloc: Global, pieces: &[&[u8]]) -> Result<Script, ScriptFault>
     Ok(script)
 }
 
-// Whether each line asks for an operation that is built.
-fn all_built(lines: &[ScriptLine]) -> bool
-    ensures { result ≡ list_all (λ line. is_built line.op) lines.now }
-{
-    lines.iter().all(|line| is_op_built(&line.op))
-}
-
-// The lines, where each asks for an operation that is built.
-fn when_built(script: Script) -> Result<Script, ScriptFault>
-    ensures { IsAnswer ScriptFault.Memory (spec.when_built script) result }
-{
-    if !all_built(&script.lines) {
-        return Err(ScriptFault::Early);
-    }
-    Ok(script)
-}
-
-// The lines that are not skipped, by the whole grammar.
-fn read_lines(alloc: Global, bytes: &[u8]) -> Result<Script, ScriptFault>
-    ensures { IsAnswer ScriptFault.Memory (spec.all_lines bytes.now) result }
+/// Reads a script: its lines that are not skipped, in order, each with its number in the text.
+///
+/// Each refusal but `Memory` is the first faulty line, with the first kind of its faults in the order of
+/// `LineKind`; `TooLong` where there are more than 262,144 bytes.
+pub fn read_script(alloc: Global, bytes: &[u8]) -> Result<Script, ScriptFault>
+    ensures { IsAnswer ScriptFault.Memory (spec.script_of bytes.now) result }
 {
     if bytes.len() as u64 > MOST_SCRIPT {
         return Err(ScriptFault::TooLong);
     }
     let pieces = pieces_of(alloc, bytes)?;
     with_pieces(alloc, &pieces)
-}
-
-/// Reads a script: its lines that are not skipped, in order, each with its number in the text.
-///
-/// Each refusal but `Memory` is the first faulty line, with the first kind of its faults in the order of
-/// `LineKind`; `TooLong` where there are more than 262,144 bytes. `Early` comes where the whole script is
-/// well formed and some line asks for an operation that is not built yet.
-pub fn read_script(alloc: Global, bytes: &[u8]) -> Result<Script, ScriptFault>
-    ensures { IsAnswer ScriptFault.Memory (spec.script_of bytes.now) result }
-{
-    let script = read_lines(alloc, bytes)?;
-    when_built(script)
 }

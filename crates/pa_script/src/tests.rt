@@ -178,6 +178,7 @@ fn lines_are_counted_with_those_that_are_skipped(rt: HostRuntime) {
         ("# merge M A B\n#\n  #limit\nlimit rows 1\n", &[4]),
         ("\nmerge M = A B\n\nlimit pivots 9\n", &[2, 4]),
         ("merge M = A B\r\nmerge N = A B", &[1, 2]),
+        ("limit rows 5\nrefine A B\n", &[1, 2]),
     ];
     for (text, numbers) in scripts {
         assert_numbers(&rt, read_script(rt.alloc(), text.as_bytes()), numbers);
@@ -205,7 +206,6 @@ fn the_first_faulty_line_is_told(rt: HostRuntime) {
         ("merge M = A B\r", at(1, LineKind::Name)),
         ("\r", at(1, LineKind::Word)),
         ("limit rows 5\r\r\n", at(1, LineKind::Number)),
-        ("limit rows 5\nrefine A B\n", ScriptFault::Early),
     ];
     for (text, fault) in scripts {
         assert_refused(&rt, read_script(rt.alloc(), text.as_bytes()), fault);

@@ -1,0 +1,16 @@
+-- Which operations are answered.
+use Rattle.std.specs.Prelude.{Bool, true, false}
+use Rattle.pa_script.specs.declared.op.Op.{Op}
+use Rattle.pa_script.specs.declared.op.Op.TheVariants.{LimitRows, LimitPivots, Merge, Test, Refine, Bound, Hide, Compose, Quotient}
+
+-- whether the operation is built so far
+abbrev pub is_built : Op → Bool
+is_built (LimitRows most) = true
+is_built (LimitPivots most) = true
+is_built (Merge result left right) = true
+is_built (Test of names at) = true
+is_built (Refine left right) = false
+is_built (Bound of least goal) = false
+is_built (Hide result of names) = false
+is_built (Compose result parts keep) = false
+is_built (Quotient result whole part) = false
