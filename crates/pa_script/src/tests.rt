@@ -170,7 +170,7 @@ fn assert_numbers(rt: &impl Abort, given: Result<Script, ScriptFault>, numbers: 
 
 #[test]
 fn lines_are_counted_with_those_that_are_skipped(rt: HostRuntime) {
-    let scripts: [(&str, &[u32]); 7] = [
+    let scripts: [(&str, &[u32]); 8] = [
         ("", &[]),
         ("\n\n", &[]),
         ("limit rows 1", &[1]),
