@@ -10,10 +10,9 @@ use Rattle.pa_meaning.specs.Composition.{is_among, is_kept, external_inputs, all
 use Rattle.pa_meaning.specs.Composition.{IsComposite, IsHidden}
 use Rattle.pa_witness.specs.Thinning.{thinned}
 use Rattle.pa_witness.specs.Projection.{AreThere, names_left}
-use Rattle.pa_witness.specs.Discharge.{Discharge, DischargedPart, discharged}
 use Rattle.pa_witness.proofs.Projection.{thinned_met, projection_exact}
 use Rattle.pa_meaning.proofs.PartRows.{FitsNames, guarantees_met}
-use Rattle.pa_witness.proofs.Composition.{parts_met}
+use Rattle.pa_witness.proofs.Discharged.{discharged_parts_met}
 use Rattle.pa_meaning.proofs.CompositionPorts.{names_distinct, parts_fit}
 use Rattle.pa_witness.proofs.NamesLeft.{left_are, go_there}
 use Rattle.pa_witness.specs.Steps.{Version}
@@ -49,23 +48,6 @@ all_guarantees_met names parts v distinct fit = (
 )
 
 -- ---- composites
--- each part is in the list with its discharge
-parts_from : (P : Contract → Type 0) (parts : List Contract) (ds : List Discharge) → length ds ≡ length parts → All (λ e. P e.part) (discharged parts ds)
-    → All P parts
-parts_from P [] ds one h = All-nil P
-parts_from P (p ∷ parts) [] one h = absurd (omega arith)
-parts_from P (p ∷ parts) (d ∷ ds) one h =
-    let e : DischargedPart = record { part = p; discharge = d } in
-    All-cons P p parts (All-head (λ (e : DischargedPart). P e.part) e (discharged parts ds) h)
-    (parts_from P parts ds (omega arith) (All-tail (λ (e : DischargedPart). P e.part) e (discharged parts ds) h))
-
-parts_to : (P : Contract → Type 0) (parts : List Contract) (ds : List Discharge) → All P parts → All (λ e. P e.part) (discharged parts ds)
-parts_to P [] ds h = All-nil (λ (e : DischargedPart). P e.part)
-parts_to P (p ∷ parts) [] h = All-nil (λ (e : DischargedPart). P e.part)
-parts_to P (p ∷ parts) (d ∷ ds) h =
-    let e : DischargedPart = record { part = p; discharge = d } in
-    All-cons (λ (e : DischargedPart). P e.part) e (discharged parts ds) (All-head P p parts h) (parts_to P parts ds (All-tail P p parts h))
-
 module _ (s : Version) (most : ℕ) (parts : List Contract) (keep : List Name) (a : ComposedAnswer)
     (distinct : All (λ p. IsDistinct bytes_eq (ports p)) parts) (apart : IsDistinct bytes_eq (all_outputs parts))
     (holds : HoldsAsComposed s most parts keep a) where
@@ -82,10 +64,7 @@ module _ (s : Version) (most : ℕ) (parts : List Contract) (keep : List Name) (
       let rows : MeetsAll (shifted_assumptions parts a.discharges) (point_over (external_inputs parts) v) =
       (thinned_met (length (external_inputs parts)) (shifted_assumptions parts a.discharges) [] a.thin (point_over (external_inputs parts) v) v.positive
       holds.thin (All-nil (λ r. Meets r (point_over (external_inputs parts) v)))).0 assumed in
-      parts_from (λ p. MeetsAssumptions p v × MeetsGuarantees p v) parts a.discharges holds.one_each
-      (parts_met (external_inputs parts) (all_outputs parts) (discharged parts a.discharges) v different
-      (parts_to (FitsNames (names_of parts)) parts a.discharges fit) holds.discharges rows
-      (parts_to (λ p. Keeps p v) parts a.discharges keeps))
+      discharged_parts_met parts a.discharges v distinct apart (record { one_each = holds.one_each; hold = holds.discharges }) rows keeps
 
   left : names_left (names_of parts) (internal_outputs parts keep) ≡ external_inputs parts ++ kept_outputs parts keep
   left = left_are (is_kept parts keep) (λ n. not (is_kept parts keep n)) (λ n. refl) (external_inputs parts) (all_outputs parts) different

@@ -18,3 +18,4 @@ pub mod Fewer
 pub mod Composition
 pub mod Rounds
 pub mod Untimely
+pub mod Discharged

@@ -2,6 +2,7 @@
 ghost use Rattle.pa_witness.specs.Basics.{CirclesStay, LeftTermsAreEnough, NoWeightsWhereStuck, PointsAreBehaviours, ProvedRowsAreMet};
 ghost use Rattle.pa_witness.specs.Basics.{RowsKeepTheirMeaning, StuckGuaranteesAreBroken, StuckRowsAreBroken};
 ghost use Rattle.pa_witness.specs.Laws.{ColumnsAreExact, ProjectionIsExact, StepIsExact, ThinningIsExact};
+ghost use Rattle.pa_witness.specs.Laws.{DischargedPartsAreMet, DischargesAreInTime, LeftTermsAreExactAtNominal};
 
 /// A list without rows that a parallel row stands in for, and without rows that weights over the rest and
 /// a context prove (Farkas 1902), is met by the same points as the given one, where the context is met.
@@ -69,4 +70,21 @@ pub fn stuck_guarantees_are_broken()
 /// No part of a circle is discharged in any round.
 pub fn circles_stay()
     ensures { CirclesStay }
+{}
+
+/// Parts whose assumptions are discharged round by round, each over the guarantees of the parts of smaller rounds: a
+/// behaviour that meets what is left of the assumptions, and keeps every part, meets all assumptions and guarantees.
+pub fn discharged_parts_are_met()
+    ensures { DischargedPartsAreMet }
+{}
+
+/// A part whose discharge holds is discharged in the round that it names, or before.
+pub fn discharges_are_in_time()
+    ensures { DischargesAreInTime }
+{}
+
+/// Where an extension of the nominal behaviour meets the weighted rows exactly, the nominal behaviour meets what is
+/// left of a term exactly where each of its extensions that meet the rows meets the term.
+pub fn left_terms_are_exact_at_nominal()
+    ensures { LeftTermsAreExactAtNominal }
 {}
