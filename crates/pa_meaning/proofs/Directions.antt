@@ -87,7 +87,7 @@ stays columns d v k (n ∷ ns) h =
     All-cons (λ n. (v.value n +ℤ k *ℤ coefficient_at columns d n) *ℤ v.den ≡ v.value n *ℤ v.den) n ns here (stays columns d v k ns h.1)
 
 -- ---- a composite's assumption without weights is final
-at_part : (P : Contract → Type 0) (parts : List Contract) (i : ℕ) → i < length parts → All P parts → P (part_at parts i)
+pub at_part : (P : Contract → Type 0) (parts : List Contract) (i : ℕ) → i < length parts → All P parts → P (part_at parts i)
 at_part P [] i h all = absurd (omega arith)
 at_part P (p ∷ parts) zero h all = All-head P p parts all
 at_part P (p ∷ parts) (suc i) h all = at_part P parts i (omega arith) (All-tail P p parts all)

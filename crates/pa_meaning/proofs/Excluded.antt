@@ -1,13 +1,18 @@
 -- Wrong answers that the definitions exclude, each on a small contract or for all.
-use Rattle.std.proofs.Common.{◌≡◌, sym, subst, ℕ, List, [], ◌∷◌, All, arith}
+use Rattle.std.proofs.Common.{◌≡◌, refl, sym, ap, ◌∙◌, subst, ℕ, zero, suc, ◌<◌, List, [], ◌∷◌, map, All, arith}
 use Rattle.std.proofs.lemmas.Int.{ints}
 use Rattle.std.proofs.lemmas.List.Elements.{All-nil, All-cons, All-head, All-tail}
-use lib.IntN.{ℤ, pos, negsuc, ◌*ℤ◌}
-use Rattle.pa_meaning.specs.Rows.{Row, Meets}
-use Rattle.pa_meaning.specs.Contracts.{Name, Contract, Behaviour, point_over, MeetsAssumptions, MeetsGuarantees, Keeps}
+use lib.IntN.{ℤ, pos, negsuc, ◌*ℤ◌, *ℤ-zero}
+use Rattle.pa_ring.specs.Sums.{dot}
+use Rattle.pa_meaning.specs.Rows.{Row, Meets, row_at}
+use Rattle.pa_meaning.specs.Weights.{Weights, combined, impossible}
+use Rattle.pa_meaning.specs.Contracts.{Name, Contract, Behaviour, coefficient_at, point_over, MeetsAssumptions, MeetsGuarantees, Keeps}
 use Rattle.pa_meaning.specs.Merge.{IsMerge}
 use Rattle.pa_meaning.specs.Refinement.{Refines, BreaksGuarantee}
-use Rattle.pa_meaning.specs.Composition.{DischargesParts, ProjectsExactly}
+use Rattle.pa_meaning.specs.Shifting.{less_weighted}
+use Rattle.pa_meaning.specs.Composition.{Stuck, IsCircle, DischargesParts, ProjectsExactly}
+use Rattle.pa_meaning.specs.Quotient.{AsksBy, QuotientLaw}
+use Rattle.pa_meaning.proofs.Extensions.{extends_itself}
 
 abbrev row : List ℤ → ℤ → Row
 row c b = record { c = c; b = b }
@@ -19,6 +24,13 @@ contract inputs outputs assumptions guarantees =
 -- every name has this whole number
 abbrev all_at : ℤ → Behaviour
 all_at k = record { value = λ n. k; den = pos 1; positive = omega (arith, ints) }
+
+-- a list of one row that is met
+one_met : (names : List Name) (v : Behaviour) (r : Row) → Meets r (point_over names v) → All (λ r. Meets r (point_over names v)) (r ∷ [])
+one_met names v r h = All-cons (λ r. Meets r (point_over names v)) r [] h (All-nil (λ r. Meets r (point_over names v)))
+
+one_is_met : (names : List Name) (v : Behaviour) (r : Row) → All (λ r. Meets r (point_over names v)) (r ∷ []) → Meets r (point_over names v)
+one_is_met names v r h = All-head (λ r. Meets r (point_over names v)) r [] h
 
 -- the names a, b, x, y and z
 abbrev a : Name
@@ -103,3 +115,100 @@ rows_are_not_deleted h =
     let rest = All-tail (λ r. Meets r (point_over (x ∷ z ∷ []) w)) (row (negsuc 0 ∷ pos 1 ∷ []) (pos 0)) (row (pos 1 ∷ pos 0 ∷ []) (pos 5) ∷ []) both in
     let five = (All-head (λ r. Meets r (point_over (x ∷ z ∷ []) w)) (row (pos 1 ∷ pos 0 ∷ []) (pos 5)) [] rest).meets in
     let up = w.positive in absurd (omega (arith, ints, six, below, five, up))
+
+-- ---- a projection that lets fewer behaviours through
+-- at 0 everywhere both rows are met, so what is left may not be `0 <= -1`
+pub no_more_is_guaranteed : ¬ ProjectsExactly (stacked ∷ []) (contract [] (z ∷ []) [] (impossible 1 ∷ []))
+no_more_is_guaranteed h =
+    let zeros : Behaviour = all_at (pos 0) in
+    let met : MeetsGuarantees stacked zeros = All-cons (λ r. Meets r (point_over (x ∷ z ∷ []) zeros)) (row (negsuc 0 ∷ pos 1 ∷ []) (pos 0))
+    (row (pos 1 ∷ pos 0 ∷ []) (pos 5) ∷ []) (record { meets = omega (arith, ints) })
+    (one_met (x ∷ z ∷ []) zeros (row (pos 1 ∷ pos 0 ∷ []) (pos 5)) (record { meets = omega (arith, ints) })) in
+    let none = (one_is_met (z ∷ []) zeros (impossible 1) ((h zeros).1 (
+      zeros,
+      extends_itself (z ∷ []) zeros,
+      All-cons (λ p. MeetsGuarantees p zeros) stacked [] met (All-nil (λ p. MeetsGuarantees p zeros)),
+    ))).meets in
+    absurd (omega (arith, ints, none))
+
+-- ---- a composite that leaves out what a part assumes
+-- `a <= b` is guaranteed, and a second part assumes `b <= 1`
+abbrev rising : List Contract
+rising = contract (a ∷ []) (b ∷ []) [] (row (pos 1 ∷ negsuc 0 ∷ []) (pos 0) ∷ []) ∷ contract (b ∷ []) [] (row (pos 1 ∷ []) (pos 1) ∷ []) [] ∷ []
+
+-- at 2 and 2 both parts keep their contracts, and the second part's assumption is broken
+pub no_assumption_is_left_out : ¬ DischargesParts rising (contract (a ∷ []) [] [] [])
+no_assumption_is_left_out h =
+    let twos : Behaviour = all_at (pos 2) in
+    let first_part : Contract = contract (a ∷ []) (b ∷ []) [] (row (pos 1 ∷ negsuc 0 ∷ []) (pos 0) ∷ []) in
+    let second_part : Contract = contract (b ∷ []) [] (row (pos 1 ∷ []) (pos 1) ∷ []) [] in
+    let kept : All (λ p. Keeps p twos) rising = All-cons (λ p. Keeps p twos) first_part (second_part ∷ [])
+    (λ k. one_met (a ∷ b ∷ []) twos (row (pos 1 ∷ negsuc 0 ∷ []) (pos 0)) (record { meets = omega (arith, ints) }))
+    (All-cons (λ p. Keeps p twos) second_part [] (λ k. All-nil (λ r. Meets r (point_over (b ∷ []) twos))) (All-nil (λ p. Keeps p twos))) in
+    let all = All-tail (λ p. MeetsAssumptions p twos × MeetsGuarantees p twos) first_part (second_part ∷ [])
+    (h twos (All-nil (λ r. Meets r (point_over (a ∷ []) twos))) kept) in
+    one_at_most b (All-head (λ p. MeetsAssumptions p twos × MeetsGuarantees p twos) second_part [] all).0
+
+-- ---- circles of no part, and of a part that stands twice
+pub no_circle_of_none : (parts : List Contract) → ¬ IsCircle parts []
+no_circle_of_none parts h = absurd (omega (arith, h.some))
+
+pub no_part_stands_twice : (parts : List Contract) (s t : Stuck) → s.part ≡ t.part → ¬ IsCircle parts (s ∷ t ∷ [])
+no_part_stands_twice parts s t same h =
+    let less : s.part < t.part = h.ascending 0 1 s (omega arith) (omega arith) in absurd (omega (arith, less, same))
+
+-- ---- quotients that guarantee too much or too little
+-- `x <= 8` gives `y <= 10`, and a part gives `y <= 2 x`
+abbrev whole : Contract
+whole = contract (x ∷ []) (y ∷ []) (row (pos 1 ∷ []) (pos 8) ∷ []) (row (pos 0 ∷ pos 1 ∷ []) (pos 10) ∷ [])
+
+abbrev doubling : Row
+doubling = row (negsuc 1 ∷ pos 1 ∷ []) (pos 0)
+
+abbrev part : Contract
+part = contract (x ∷ []) (y ∷ []) [] (doubling ∷ [])
+
+-- at 0 everywhere a sum of products is 0, and so is the bound of any sum of rows whose bounds are 0
+dot_at_zeros : (cs : List ℤ) (names : List Name) → dot cs (map (λ n. pos 0) names) ≡ pos 0
+dot_at_zeros [] names = refl
+dot_at_zeros (c ∷ cs) [] = refl
+dot_at_zeros (c ∷ cs) (n ∷ names) = let first : c *ℤ pos 0 ≡ pos 0 = *ℤ-zero c in let rest = dot_at_zeros cs names in omega (arith, ints, first, rest)
+
+no_bound_at : (i : ℕ) → (row_at (doubling ∷ []) i).b ≡ pos 0
+no_bound_at zero = refl
+no_bound_at (suc i) = refl
+
+no_bound : (parts : List (ℕ × ℤ)) → (combined parts (doubling ∷ [])).b ≡ pos 0
+no_bound [] = refl
+no_bound (w ∷ ws) =
+    let first : w.1 *ℤ (row_at (doubling ∷ []) w.0).b ≡ pos 0 = ap (λ t. w.1 *ℤ t) (no_bound_at w.0) ∙ *ℤ-zero w.1 in
+    let rest = no_bound ws in omega (arith, ints, first, rest)
+
+-- Whatever the weights, at 0 everywhere what is left of `y <= 10` is met, so the quotient may not guarantee `0 <= -1`.
+pub impossible_is_not_asked : (ws : List Weights) → ¬ AsksBy whole part (contract (x ∷ []) [] (row (pos 1 ∷ []) (pos 8) ∷ []) (impossible 1 ∷ [])) ws
+impossible_is_not_asked [] h = absurd h.leaves
+impossible_is_not_asked (w ∷ []) h =
+    let zeros : Behaviour = all_at (pos 0) in
+    let up = h.leaves.0.positive in
+    let bound = no_bound w.parts in
+    let sum = dot_at_zeros (less_weighted (row (pos 0 ∷ pos 1 ∷ []) (pos 10)) (doubling ∷ []) w).c (x ∷ y ∷ []) in
+    let left : Meets (less_weighted (row (pos 0 ∷ pos 1 ∷ []) (pos 10)) (doubling ∷ []) w) (point_over (x ∷ y ∷ []) zeros) =
+    record { meets = omega (arith, ints, up, bound, sum) } in
+    let asked = (h.asks zeros (one_met (x ∷ []) zeros (row (pos 1 ∷ []) (pos 8)) (record { meets = omega (arith, ints) }))).1
+    (All-nil (λ r. Meets r (point_over (x ∷ []) zeros)), (left, tt)) in
+    let none = (one_is_met (x ∷ []) zeros (impossible 1) asked).meets in
+    absurd (omega (arith, ints, none))
+impossible_is_not_asked (w ∷ u ∷ ws) h = absurd h.leaves.1
+
+-- x is 6 and y is 12
+abbrev six_and_twelve : Behaviour
+six_and_twelve = record { value = coefficient_at (x ∷ y ∷ []) (pos 6 ∷ pos 12 ∷ []); den = pos 1; positive = omega (arith, ints) }
+
+-- there the part is kept, and the whole's guarantee is broken: so a quotient asks for something
+pub something_is_asked : ¬ QuotientLaw whole part (contract (x ∷ []) [] (row (pos 1 ∷ []) (pos 8) ∷ []) [])
+something_is_asked h =
+    let v : Behaviour = six_and_twelve in
+    let all = h v (one_met (x ∷ []) v (row (pos 1 ∷ []) (pos 8)) (record { meets = omega (arith, ints) }))
+    (λ k. one_met (x ∷ y ∷ []) v doubling (record { meets = omega (arith, ints) })) (λ k. All-nil (λ r. Meets r (point_over (x ∷ []) v))) in
+    let ten = (one_is_met (x ∷ y ∷ []) v (row (pos 0 ∷ pos 1 ∷ []) (pos 10)) all.1).meets in
+    absurd (omega (arith, ints, ten))

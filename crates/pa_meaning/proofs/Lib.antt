@@ -3,6 +3,7 @@ pub mod PrimitiveRows
 pub mod Extensions
 pub mod Examples
 pub mod Excluded
+pub mod Exclusive
 pub mod Shifting
 pub mod Places
 pub mod NamedRows
