@@ -74,7 +74,7 @@ first = contract (i ∷ []) (o ∷ []) (row (pos 1 ∷ []) (pos 2) ∷ row (negs
 abbrev second : Contract
 second = contract (o ∷ []) (p ∷ []) (row (negsuc 0 ∷ []) (pos 1) ∷ row (pos 5 ∷ []) (pos 1) ∷ []) (row (negsuc 0 ∷ pos 1 ∷ []) (pos 0) ∷ [])
 
-abbrev chain : List Contract
+abbrev pub chain : List Contract
 chain = first ∷ second ∷ []
 
 no_refusal : due_compose chain [] ≡ None
@@ -90,7 +90,7 @@ abbrev pub nothing : Weights
 nothing = weights (pos 1) []
 
 -- the first part needs nothing; of the second part's rows, half of `i - 2 o <= 2` cancels `-o <= 1`, and 5 times `o <= i` the other
-abbrev discharges : List Discharge
+abbrev pub discharges : List Discharge
 discharges =
     record { round = 0; shifts = nothing ∷ nothing ∷ [] }
     ∷ record { round = 1; shifts = weights (pos 2) ((1, pos 1) ∷ []) ∷ weights (pos 1) ((0, pos 5) ∷ []) ∷ [] }

@@ -13,3 +13,6 @@ pub mod Merging
 pub mod Examples
 pub mod PartExamples
 pub mod PointExamples
+pub mod Certificates
+pub mod Orders
+pub mod Misprints

@@ -65,11 +65,11 @@ loop_holds = record {
 
 -- ---- a guarantee that narrows the inputs
 -- `w <= 8`; `y <= 10`
-abbrev ten : Contract
+abbrev pub ten : Contract
 ten = contract (w ∷ []) (y ∷ []) (row (pos 1 ∷ []) (pos 8) ∷ []) (row (pos 0 ∷ pos 1 ∷ []) (pos 10) ∷ [])
 
 -- `y <= 2 w`
-abbrev double : Contract
+abbrev pub double : Contract
 double = contract (w ∷ []) (y ∷ []) [] (row (negsuc 1 ∷ pos 1 ∷ []) (pos 0) ∷ [])
 
 -- the rest has no outputs, and asks `w <= 5`, which is marked
@@ -93,7 +93,7 @@ narrowed_holds = record {
 
 -- ---- a row that is dropped
 -- the names x and z
-abbrev x : Name
+abbrev pub x : Name
 x = 120 ∷ []
 
 abbrev z : Name
@@ -140,7 +140,7 @@ square_holds = record {
 
 -- ---- a shift by one of two guarantees
 -- `o <= i` and `o <= 1`; and a part that assumes `o <= 2`
-abbrev capped : List Contract
+abbrev pub capped : List Contract
 capped =
     contract (i ∷ []) (o ∷ []) [] (row (negsuc 0 ∷ pos 1 ∷ []) (pos 0) ∷ row (pos 0 ∷ pos 1 ∷ []) (pos 1) ∷ [])
     ∷ contract (o ∷ []) [] (row (pos 1 ∷ []) (pos 2) ∷ []) []
@@ -149,7 +149,7 @@ capped =
 abbrev capped_discharges : List Discharge
 capped_discharges = record { round = 0; shifts = [] } ∷ record { round = 1; shifts = weights (pos 1) ((0, pos 1) ∷ []) ∷ [] } ∷ []
 
-abbrev capped_steps : List NamedStep
+abbrev pub capped_steps : List NamedStep
 capped_steps = record { name = None; drops = [] } ∷ record { name = Some o; drops = [] } ∷ []
 
 -- by the first guarantee `i <= 2` is left
@@ -216,13 +216,13 @@ tied_rows =
     ∷ row (negsuc 0 ∷ pos 0 ∷ pos 1 ∷ []) (pos 0)
     ∷ []
 
-abbrev tied : Contract
+abbrev pub tied : Contract
 tied = contract [] (x ∷ y ∷ z ∷ []) [] tied_rows
 
 abbrev untied_rows : List Row
 untied_rows = row (pos 1 ∷ pos 0 ∷ []) (pos 5) ∷ row (negsuc 0 ∷ pos 0 ∷ []) (pos 1) ∷ row (negsuc 0 ∷ pos 1 ∷ []) (pos 0) ∷ []
 
-abbrev untied : HiddenAnswer
+abbrev pub untied : HiddenAnswer
 untied = record {
   contract = contract [] (y ∷ z ∷ []) [] untied_rows;
   steps = record { name = None; drops = [] } ∷ record { name = Some x; drops = [] } ∷ [];

@@ -212,3 +212,17 @@ something_is_asked h =
     (λ k. one_met (x ∷ y ∷ []) v doubling (record { meets = omega (arith, ints) })) (λ k. All-nil (λ r. Meets r (point_over (x ∷ []) v))) in
     let ten = (one_is_met (x ∷ y ∷ []) v (row (pos 0 ∷ pos 1 ∷ []) (pos 10)) all.1).meets in
     absurd (omega (arith, ints, ten))
+
+-- the same part, which assumes `x <= 4`
+abbrev choosy_part : Contract
+choosy_part = contract (x ∷ []) (y ∷ []) (row (pos 1 ∷ []) (pos 4) ∷ []) (doubling ∷ [])
+
+-- `x <= 5` is not enough: at 5 everywhere the part may do as it likes
+pub assumptions_are_asked : ¬ QuotientLaw whole choosy_part (contract (x ∷ []) [] (row (pos 1 ∷ []) (pos 8) ∷ []) (row (pos 1 ∷ []) (pos 5) ∷ []))
+assumptions_are_asked h =
+    let v : Behaviour = all_at (pos 5) in
+    let all = h v (one_met (x ∷ []) v (row (pos 1 ∷ []) (pos 8)) (record { meets = omega (arith, ints) }))
+    (λ k. one_met (x ∷ y ∷ []) v doubling (record { meets = omega (arith, ints) }))
+    (λ k. one_met (x ∷ []) v (row (pos 1 ∷ []) (pos 5)) (record { meets = omega (arith, ints) })) in
+    let four = (one_is_met (x ∷ []) v (row (pos 1 ∷ []) (pos 4)) all.0).meets in
+    absurd (omega (arith, ints, four))
