@@ -182,3 +182,45 @@ impossible_is_not_left v most a h same =
     let there : a.contract.assumptions ≡ thinned 1 (shifted_assumptions capped a.discharges) a.thin = ap (λ (c : Contract). c.assumptions) h.contract in
     let none = (All-head (λ r. Meets r x) (impossible 1) [] (subst (λ rows. MeetsAll rows x) (sym there ∙ same) met)).meets in
     absurd (omega (arith, ints, none))
+
+-- ---- weights that leave more than need be
+-- `o <= 0` and `-o <= 9` are guaranteed, and `o <= 2` is assumed: twice the first and once the second leave `0 <= -7`, and so
+-- `0 <= -1`. No definition and no test excludes such a composite, which says nothing.
+abbrev bounded : Contract
+bounded = contract [] (o ∷ []) [] (row (pos 1 ∷ []) (pos 0) ∷ row (negsuc 0 ∷ []) (pos 9) ∷ [])
+
+abbrev wasteful : List Contract
+wasteful = bounded ∷ taker ∷ []
+
+abbrev needless : Weights
+needless = weights (pos 1) ((0, pos 2) ∷ (1, pos 1) ∷ [])
+
+abbrev needless_discharges : List Discharge
+needless_discharges = record { round = 0; shifts = [] } ∷ record { round = 1; shifts = needless ∷ [] } ∷ []
+
+needless_weights_hold : HoldsAsComposed One 4096 wasteful [] (record {
+  contract = contract [] [] (impossible 0 ∷ []) [];
+  discharges = needless_discharges;
+  thin = [];
+  steps = capped_steps;
+})
+unfolding gcd_of
+needless_weights_hold = record {
+  one_each = refl;
+  discharges = two_of (DischargeHolds (names_of wasteful) 0 (discharged wasteful needless_discharges))
+      (record { part = bounded; discharge = record { round = 0; shifts = [] } })
+      (record { part = taker; discharge = record { round = 1; shifts = needless ∷ [] } })
+      tt (
+        record {
+          positive = omega (arith, ints);
+          weights = two_of (λ part. pos 0 ≤ℤ part.1) (0, pos 2) (1, pos 1) (omega (arith, ints)) (omega (arith, ints));
+          places = two_of (λ part. part.0 < 2) (0, pos 2) (1, pos 1) (omega arith) (omega arith);
+          gone = one_zero;
+        },
+        tt,
+      );
+  thin = none_dropped 0 (shifted_assumptions wasteful needless_discharges) [];
+  named = refl;
+  elimination = record { first = none_dropped 1 (all_guarantees wasteful) []; steps = (omega arith, none_dropped 0 (row [] (pos 1) ∷ []) [], tt) };
+  contract = refl;
+}

@@ -16,3 +16,4 @@ pub mod PointExamples
 pub mod Certificates
 pub mod Orders
 pub mod Misprints
+pub mod Ranges

@@ -115,7 +115,7 @@ unfolding gcd_of
 no_step_above_the_limit h = let made = h.elimination.steps.0 in absurd (omega (arith, made))
 
 -- ---- proofs and points
-abbrev of_first : List Name → ℕ
+abbrev pub of_first : List Name → ℕ
 of_first [] = 0
 of_first (n ∷ names) = first_byte n
 

@@ -96,7 +96,7 @@ narrowed_holds = record {
 abbrev pub x : Name
 x = 120 ∷ []
 
-abbrev z : Name
+abbrev pub z : Name
 z = 122 ∷ []
 
 -- `x <= 1`, `y <= 1` and `x + y <= 3`
@@ -104,7 +104,7 @@ abbrev given_rows : List Row
 given_rows =
     row (pos 1 ∷ pos 0 ∷ pos 0 ∷ []) (pos 1) ∷ row (pos 0 ∷ pos 1 ∷ pos 0 ∷ []) (pos 1) ∷ row (pos 1 ∷ pos 1 ∷ pos 0 ∷ []) (pos 3) ∷ []
 
-abbrev square : Contract
+abbrev pub square : Contract
 square = contract [] (x ∷ y ∷ z ∷ []) [] given_rows
 
 -- the first two rows prove the third one
