@@ -1,10 +1,10 @@
 -- Two parts whose composite may assume more or less, by the weights: which rows are exact at the nominal values, and that no
 -- certificate leaves what nothing meets.
-use Rattle.std.proofs.Common.{◌≡◌, ◌≢◌, refl, sym, ap, ◌∙◌, subst, ℕ, zero, suc, ◌<◌, List, [], ◌∷◌, length, drop, filter, nat_lt, All, arith}
+use Rattle.std.proofs.Common.{◌≡◌, ◌≢◌, refl, sym, ap, ◌∙◌, subst, ℕ, zero, suc, ◌<◌, List, [], ◌∷◌, length, filter, nat_lt, All, arith}
 use Rattle.std.proofs.lemmas.Int.{ints}
-use Rattle.std.proofs.lemmas.List.Elements.{All-nil, All-cons, All-head, All-tail, All-filter}
+use Rattle.std.proofs.lemmas.List.Elements.{All-nil, All-head, All-tail, All-filter}
 use Rattle.std.specs.List.{AllZip}
-use lib.IntN.{ℤ, pos, negsuc, ◌+ℤ◌, ◌*ℤ◌, *ℤ-zero}
+use lib.IntN.{ℤ, pos, negsuc, ◌+ℤ◌, ◌*ℤ◌}
 use lib.Signed.{◌≤ℤ◌}
 use Rattle.pa_ring.specs.Sums.{number_at, dot, times}
 use Rattle.pa_ring.proofs.Integers.{gap, ◌·◌, ◌∔◌}
@@ -14,7 +14,7 @@ use Rattle.pa_ring.proofs.Sums.{number_at-sum_of, number_at-times, dot_comm, dot
 use Rattle.pa_math.specs.Divisors.{gcd_of}
 use Rattle.pa_meaning.specs.Rows.{Row, Meets, MeetsAll, row_at}
 use Rattle.pa_meaning.specs.Weights.{Weights, combined, NoneNegative, impossible}
-use Rattle.pa_meaning.specs.Contracts.{Name, Contract, Behaviour, Extends, point_over, coefficient_at}
+use Rattle.pa_meaning.specs.Contracts.{Contract, Behaviour, point_over, coefficient_at}
 use Rattle.pa_meaning.specs.Shifting.{less_weighted, Leaves}
 use Rattle.pa_meaning.specs.Composition.{names_of, guarantees_over, IsExactAtNominal}
 use Rattle.pa_meaning.proofs.Extensions.{extends_itself}
@@ -26,7 +26,7 @@ use Rattle.pa_witness.specs.Steps.{Version, One}
 use Rattle.pa_witness.specs.Discharge.{Discharge, DischargedPart, discharged, DischargeHolds, discharge_rows, earlier_guarantees}
 use Rattle.pa_witness.proofs.Shifts.{leaves_from_shift, shifts_read}
 use Rattle.pa_witness.proofs.Projection.{thinned_met}
-use Rattle.pa_cert.specs.Lists.{NamedStep, ComposedAnswer}
+use Rattle.pa_cert.specs.Lists.{ComposedAnswer}
 use Rattle.pa_holds.specs.Composed.{shifted_assumptions, all_guarantees, HoldsAsComposed}
 use Rattle.pa_holds.proofs.Examples.{row, weights, contract, i, o, none_dropped, one_zero, two_zeros, one_of, two_of, by_one}
 use Rattle.pa_holds.proofs.PartExamples.{capped, capped_steps}
@@ -102,9 +102,9 @@ first_is_not_exact_at_five h =
     let v : Behaviour = at (pos 5) (pos 1) in
     let left = (h.exact v (extends_itself (i ∷ []) v) (caps_met v (record { meets = omega (arith, ints) }) (record { meets = omega (arith, ints) }))).1
     (λ u e m.
-        let one = (All-head (λ r. Meets r (point_over (i ∷ o ∷ []) u)) (row (pos 0 ∷ pos 1 ∷ []) (pos 1)) []
-        (All-tail (λ r. Meets r (point_over (i ∷ o ∷ []) u)) (row (negsuc 0 ∷ pos 1 ∷ []) (pos 0)) (row (pos 0 ∷ pos 1 ∷ []) (pos 1) ∷ []) m)).meets in
-        let up = u.positive in record { meets = omega (arith, ints, one, up) }) in
+    let one = (All-head (λ r. Meets r (point_over (i ∷ o ∷ []) u)) (row (pos 0 ∷ pos 1 ∷ []) (pos 1)) []
+    (All-tail (λ r. Meets r (point_over (i ∷ o ∷ []) u)) (row (negsuc 0 ∷ pos 1 ∷ []) (pos 0)) (row (pos 0 ∷ pos 1 ∷ []) (pos 1) ∷ []) m)).meets in
+    let up = u.positive in record { meets = omega (arith, ints, one, up) }) in
     let five = left.meets in absurd (omega (arith, ints, five))
 
 -- ---- no certificate leaves what nothing meets

@@ -1,19 +1,18 @@
 -- Printed answers with one thing wrong: none of them holds as it is printed.
-use Rattle.std.proofs.Common.{◌≡◌, refl, ap, ℕ, zero, suc, ◌<◌, true, false, List, [], ◌∷◌, length, drop, All, Option, Some, None, arith}
+use Rattle.std.proofs.Common.{◌≡◌, refl, ap, ℕ, ◌<◌, true, false, List, [], ◌∷◌, length, Option, Some, None, arith}
 use Rattle.std.proofs.lemmas.Int.{ints}
-use Rattle.std.proofs.lemmas.List.Elements.{All-head, All-tail}
+use Rattle.std.proofs.lemmas.List.Elements.{All-head}
 use lib.IntN.{ℤ, pos, negsuc}
 use lib.Signed.{◌≤ℤ◌}
-use Rattle.pa_ring.specs.Sums.{number_at}
 use Rattle.pa_math.specs.Divisors.{gcd_of}
 use Rattle.pa_meaning.specs.Rows.{Row, Point}
-use Rattle.pa_meaning.specs.Weights.{Weights, Proves}
-use Rattle.pa_meaning.specs.Contracts.{Name, Contract}
+use Rattle.pa_meaning.specs.Weights.{Weights}
+use Rattle.pa_meaning.specs.Contracts.{Name}
 use Rattle.pa_witness.specs.Thinning.{Dropped, ThinningHolds, cleaned}
 use Rattle.pa_witness.specs.Steps.{One, Two}
 use Rattle.pa_witness.specs.Shifts.{ShiftHolds, ShiftsHold}
 use Rattle.pa_witness.specs.Discharge.{Discharge, discharged, earlier_guarantees}
-use Rattle.pa_cert.specs.Lists.{Located, Heading, NamedStep, ComposedAnswer}
+use Rattle.pa_cert.specs.Lists.{NamedStep, ComposedAnswer}
 use Rattle.pa_holds.specs.Refined.{ProveEach, IsAt}
 use Rattle.pa_holds.specs.Bounded.{WeightsBound}
 use Rattle.pa_holds.specs.Composed.{AreNamed, HoldsAsHidden, HoldsAsComposed}

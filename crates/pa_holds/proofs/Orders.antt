@@ -3,16 +3,15 @@
 use Rattle.std.proofs.Common.{◌≡◌, refl, List, [], ◌∷◌, Some, None}
 use lib.IntN.{pos, negsuc}
 use Rattle.pa_math.specs.Divisors.{gcd_of}
-use Rattle.pa_meaning.specs.Rows.{Row}
 use Rattle.pa_meaning.specs.Weights.{impossible}
 use Rattle.pa_meaning.specs.Contracts.{Contract}
 use Rattle.pa_meaning.specs.Composition.{external_inputs, kept_outputs, internal_outputs, names_of}
 use Rattle.pa_meaning.specs.Quotient.{quotient_outputs, quotient_names}
 use Rattle.pa_witness.specs.Elimination.{eliminated}
 use Rattle.pa_witness.specs.Equalities.{equality_of}
-use Rattle.pa_witness.specs.Steps.{One, Two, stepped}
+use Rattle.pa_witness.specs.Steps.{Two, stepped}
 use Rattle.pa_witness.specs.Thinning.{cleaned}
-use Rattle.pa_holds.proofs.Examples.{row, contract, a, b, i, o, p, u, w, y}
+use Rattle.pa_holds.proofs.Examples.{row, contract, a, b, i, o, p, u, y}
 
 -- ---- pairs of a step
 -- `x <= 1`, `x + y <= 2`, `-x <= 3` and `y - x <= 4`: each row that is positive in x with each one that is negative there

@@ -1,19 +1,19 @@
 -- Printed numbers, names and refusals at the edges of their ranges. Of an answer that names a limit no law says more than
 -- these ranges.
-use Rattle.std.proofs.Common.{◌≡◌, ◌≢◌, refl, sym, ap, ℕ, ◌≤◌, ◌<◌, true≢false, List, [], ◌∷◌, length, replicate, Some, None, arith}
+use Rattle.std.proofs.Common.{◌≡◌, ◌≢◌, refl, sym, ap, ℕ, ◌<◌, true≢false, List, [], ◌∷◌, length, replicate, Some, None, arith}
 use Rattle.std.proofs.lemmas.Int.{ints}
 use Rattle.std.proofs.lemmas.List.Elements.{All-head}
-use lib.IntN.{ℤ, pos, negsuc}
+use lib.IntN.{ℤ, pos}
 use Rattle.pa_row.specs.declared.place.Group.TheVariants.{Thin, Step}
 use Rattle.pa_row.specs.declared.place.Task.{Task}
 use Rattle.pa_row.specs.declared.place.Task.TheVariants.{Sum, Cover, Goal, Shift, Whole, Clean, Filter, Pairs}
 use Rattle.pa_row.specs.declared.place.Spot.{Spot}
-use Rattle.pa_row.specs.declared.place.Spot.TheVariants.{Load, Pivot, Read}
+use Rattle.pa_row.specs.declared.place.Spot.TheVariants.{Load, Pivot}
 use Rattle.pa_row.specs.declared.place.Sub.{Sub}
 use Rattle.pa_row.specs.declared.place.Sub.TheVariants.{Main, Base}
 use Rattle.pa_row.specs.declared.place.Place.{Place}
 use Rattle.pa_meaning.specs.Rows.{Point}
-use Rattle.pa_meaning.specs.Contracts.{Name, Contract}
+use Rattle.pa_meaning.specs.Contracts.{Name}
 use Rattle.pa_script.specs.declared.op.Op.TheVariants.{Merge}
 use Rattle.pa_cert.specs.Lists.{Heading}
 use Rattle.pa_cert.specs.Tables.{Limits}
