@@ -9,7 +9,8 @@
 mod laws;
 
 pub use laws::{
-    circles_stay, columns_exact, left_terms_are_enough, no_weights_where_stuck,
+    circles_stay, columns_exact, discharged_parts_are_met, discharges_are_in_time,
+    left_terms_are_enough, left_terms_are_exact_at_nominal, no_weights_where_stuck,
     points_are_behaviours, projection_exact, proved_rows_are_met, rows_keep_their_meaning,
     step_exact, stuck_guarantees_are_broken, stuck_rows_are_broken, thinning_exact,
 };
