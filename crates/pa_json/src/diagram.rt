@@ -1,107 +1,151 @@
 // Diagrams.
-ghost use Rattle.std.specs.Prelude.{◌≡◌};
+ghost use Rattle.std.specs.Prelude.{codes, IfOk, Ok, ◌++◌};
+ghost use Rattle.std.specs.List.{IsDistinct};
+ghost use Rattle.std.specs.Str.{bytes_eq};
 ghost use Rattle.std.specs.Result.{result_map_both};
+ghost use Rattle.serde_json.specs.Find.{get};
 ghost use Rattle.serde_json.specs.View.{view, items_view};
 ghost use Rattle.pa_math.specs.Answers.{IsAnswer};
 ghost use Rattle.pa_json.specs.Diagram as spec;
+ghost use Rattle.pa_json.specs.Diagrams.{Diagram as DiagramValue, names_of, AreContracts};
+ghost use Rattle.pa_json.specs.Described.{IsDescribed};
+ghost use Rattle.pa_json.specs.Values.{values_of};
 
-use crate::named::{Earlier, with_contracts};
-use crate::{DiagramFault, Named, Path};
+use crate::layout::{Layout, read_layout};
+use crate::limits::{MOST_DIAGRAM_BYTES, MOST_ITEMS};
+use crate::named::with_contracts;
+use crate::part::with_parts;
+use crate::values::read_values;
+use crate::{DiagramFault, Path};
+use pa_contract::{Contracts, Nominal};
 use serde_json::Value;
 use std::alloc::Global;
 use std::marker::Model;
 
-/// How many bytes a diagram has at most.
-pub const MOST_DIAGRAM_BYTES: u64 = 1_048_576;
-
-// How many contracts a diagram has at most.
-const MOST_CONTRACTS: usize = 200;
-
-/// The contracts of a diagram, in its order. No two have one name.
+/// A diagram: contracts by their names, parts, which are contracts with their ports renamed, both in the
+/// diagram's order, and nominal values in the byte order of their names. No two contracts and parts have one
+/// name, and each is well-formed.
 #[derive(Drop)]
 pub struct Diagram {
-    pub contracts: Vec<Named>,
+    pub contracts: Contracts,
+    pub parts: Contracts,
+    pub nominal: Nominal,
 }
 
 impl Model for Diagram {
-    ghost use Rattle.std.specs.Prelude.{List};
-    ghost use Rattle.pa_meaning.specs.Contracts.{Named as NamedValue};
+    ghost use Rattle.pa_json.specs.Diagrams.{Diagram as DiagramValue, IsDiagram};
 
-    ghost Value = { List NamedValue };
+    ghost Value = { DiagramValue };
 
-    ghost view = { λ d. d.contracts.items };
+    ghost view = { λ d. record { contracts = d.contracts; parts = d.parts; nominal = d.nominal } };
+
+    ghost invariant = { λ d. IsDiagram (record { contracts = d.contracts; parts = d.parts; nominal = d.nominal }) };
 }
 
-fn is_first_version(tree: &Value) -> bool
-    ensures { result ≡ spec.is_first_version (view tree.now) }
-{
-    match tree.get("version").and_then(Value::as_u64) {
-        Some(version) => version == 1,
-        None => false,
-    }
-}
-
-// The two contracts' items; another number is not read yet.
+// The items of a list at the path.
 #[tactic(auto, using(crate::proofs::Steps::items_len_of))]
-fn two_items(alloc: Global, tree: &Value) -> Result<&Vec<Value>, DiagramFault>
-    ensures { IsAnswer DiagramFault.Memory (spec.two_items (view tree.now))
+fn few_items<'a>(
+    alloc: Global,
+    found: &'a Value,
+    path: &Path,
+) -> Result<&'a Vec<Value>, DiagramFault>
+    ensures { IsAnswer DiagramFault.Memory (spec.few_items path.now (view found.now))
         (result_map_both (λ items. items_view items.now.items) (λ fault. fault) result) }
 {
-    let Some(items) = tree.get("contracts").and_then(Value::as_array) else {
-        let path = Path::new(alloc, "/contracts")?;
-        return Err(DiagramFault::Shape { path });
+    let Some(items) = found.as_array() else {
+        return Err(DiagramFault::Shape {
+            path: path.copy(alloc)?,
+        });
     };
-    if items.len() > MOST_CONTRACTS {
-        let path = Path::new(alloc, "/contracts")?;
-        return Err(DiagramFault::Limit { path });
-    }
-    if items.len() != 2 {
-        let path = Path::new(alloc, "/contracts")?;
-        return Err(DiagramFault::Early { path });
+    if items.len() > MOST_ITEMS {
+        return Err(DiagramFault::Limit {
+            path: path.copy(alloc)?,
+        });
     }
     Ok(items)
 }
 
-// No member stands beside the contracts that is not read yet.
-fn expect_alone(alloc: Global, tree: &Value) -> Result<(), DiagramFault>
-    ensures { IsAnswer DiagramFault.Memory (spec.alone (view tree.now)) result }
+// The contracts of a tree.
+fn contracts_of(alloc: Global, tree: &Value, layout: &Layout) -> Result<Contracts, DiagramFault>
+    ensures answer { IsAnswer DiagramFault.Memory (spec.contracts_of layout.now (view tree.now)) result }
+    ensures fit { IfOk result AreContracts }
+    ensures distinct { IfOk result (λ contracts. IsDistinct bytes_eq (names_of contracts)) }
 {
-    if tree.get("parts").is_some() {
-        let path = Path::new(alloc, "/parts")?;
-        return Err(DiagramFault::Early { path });
-    }
-    if tree.get("nominal").is_some() {
-        let path = Path::new(alloc, "/nominal")?;
-        return Err(DiagramFault::Early { path });
-    }
-    Ok(())
+    let path = Path::new(alloc, "/contracts")?;
+    let Some(found) = tree.get("contracts") else {
+        return Err(DiagramFault::Shape { path });
+    };
+    let items = few_items(alloc, found, &path)?;
+    with_contracts(alloc, layout, items, &path)
 }
 
-fn read_tree(alloc: Global, tree: &Value) -> Result<Diagram, DiagramFault>
-    ensures { IsAnswer DiagramFault.Memory (spec.contracts_of (view tree.now)) result }
+// The parts of a tree, none where the member is not there.
+fn parts_of(alloc: Global, tree: &Value, contracts: &Contracts) -> Result<Contracts, DiagramFault>
+    ensures answer { IsAnswer DiagramFault.Memory (spec.parts_of contracts.now (view tree.now)) result }
+    ensures fit { IfOk result AreContracts }
+    ensures distinct { IfOk result (λ parts. IsDistinct bytes_eq (names_of contracts.now) → IsDistinct bytes_eq (names_of (contracts.now ++ parts))) }
+{
+    let Some(found) = tree.get("parts") else {
+        return Ok(Contracts::new(alloc));
+    };
+    let path = Path::new(alloc, "/parts")?;
+    let items = few_items(alloc, found, &path)?;
+    with_parts(alloc, contracts, items, &path)
+}
+
+// The nominal values of a tree.
+fn nominal_of(alloc: Global, tree: &Value) -> Result<Nominal, DiagramFault>
+    ensures { IsAnswer DiagramFault.Memory (values_of (codes "/nominal") (get (codes "nominal") (view tree.now))) result }
+{
+    let path = Path::new(alloc, "/nominal")?;
+    read_values(alloc, tree.get("nominal"), &path)
+}
+
+// The diagram of these contracts and parts with the nominal values of a tree.
+fn with_nominal(
+    alloc: Global,
+    tree: &Value,
+    contracts: Contracts,
+    parts: Contracts,
+) -> Result<Diagram, DiagramFault>
+    requires distinct { IsDistinct bytes_eq (names_of (contracts ++ parts)) }
+    requires contracts_fit { AreContracts contracts }
+    requires parts_fit { AreContracts parts }
+    ensures { IsAnswer DiagramFault.Memory (spec.with_nominal (view tree.now) contracts parts) result }
+{
+    match nominal_of(alloc, tree) {
+        Ok(nominal) => Ok(Diagram {
+            contracts,
+            parts,
+            nominal,
+        }),
+        Err(fault) => Err(fault),
+    }
+}
+
+// The diagram of a tree of this layout.
+fn with_layout(alloc: Global, tree: &Value, layout: &Layout) -> Result<Diagram, DiagramFault>
+    ensures { IsAnswer DiagramFault.Memory (spec.with_layout (view tree.now) layout.now) result }
+{
+    let contracts = contracts_of(alloc, tree, layout)?;
+    let parts = parts_of(alloc, tree, &contracts)?;
+    with_nominal(alloc, tree, contracts, parts)
+}
+
+/// The diagram of a tree.
+pub(crate) fn read_tree(alloc: Global, tree: &Value) -> Result<Diagram, DiagramFault>
+    ensures { IsAnswer DiagramFault.Memory (spec.diagram_in (view tree.now)) result }
 {
     if !tree.is_object() {
         let path = Path::new(alloc, "/")?;
         return Err(DiagramFault::Shape { path });
     }
-    if !is_first_version(tree) {
-        return Err(DiagramFault::Version);
-    }
-    let items = two_items(alloc, tree)?;
-    let contracts = with_contracts(alloc, items)?;
-    expect_alone(alloc, tree)?;
-    Ok(Diagram {
-        contracts: contracts.into_contracts(),
-    })
+    let layout = read_layout(alloc, tree)?;
+    with_layout(alloc, tree, &layout)
 }
 
-/// Reads a diagram: JSON with `version` 1 and the two `contracts`, which have no inputs and no
-/// assumptions, and guarantees that are first terms over the outputs.
-///
-/// Each refusal but `Memory` is the first fault of the bytes in the order of the format's tests:
-/// their number, the JSON, the root, the version, the list of contracts, each contract's name,
-/// ports, rows and limits, and last what stands beside the contracts and is not read yet.
-pub fn read_diagram(alloc: Global, bytes: &Vec<u8>) -> Result<Diagram, DiagramFault>
+// The diagram of a text.
+fn read_bytes(alloc: Global, bytes: &Vec<u8>) -> Result<Diagram, DiagramFault>
     ensures { IsAnswer DiagramFault.Memory (spec.diagram_of bytes.now.items) result }
 {
     if bytes.len() as u64 > MOST_DIAGRAM_BYTES {
@@ -116,4 +160,19 @@ pub fn read_diagram(alloc: Global, bytes: &Vec<u8>) -> Result<Diagram, DiagramFa
             Err(DiagramFault::Json)
         }
     }
+}
+
+/// Reads a diagram: JSON with `version` 1 or 2, `contracts`, and perhaps `parts` and `nominal`; in version 2
+/// perhaps with `constants`.
+///
+/// Each refusal but `Memory` is the first fault of the bytes in the order of the format's tests: their
+/// number, the JSON, the root, the version, the constants, then each contract's name, ports, texts and
+/// number of rows, each part, and last the nominal values.
+pub fn read_diagram(alloc: Global, bytes: &Vec<u8>) -> Result<Diagram, DiagramFault>
+    ensures answer { IsAnswer DiagramFault.Memory (spec.diagram_of bytes.now.items) result }
+    // The text describes what was read, and what it describes is the answer.
+    ensures described { IfOk result (IsDescribed bytes.now.items) }
+    ensures only { (diagram : DiagramValue) → IsDescribed bytes.now.items diagram → IsAnswer DiagramFault.Memory (Ok diagram) result }
+{
+    read_bytes(alloc, bytes)
 }
