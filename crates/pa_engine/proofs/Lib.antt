@@ -1,4 +1,5 @@
-pub mod Lines
-pub mod Texts
-pub mod Endings
-pub mod Outcomes
+pub mod Puts
+pub mod Turns
+pub mod Ends
+pub mod Diagrams
+pub mod Fetched

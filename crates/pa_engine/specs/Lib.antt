@@ -1,7 +1,5 @@
+-- What the program does: its words, its inputs, the answers, and how a run ends.
 pub mod Words
-pub mod Script
-pub mod Answers
-pub mod Report
+pub mod Inputs
 pub mod Statuses
-pub mod Outcome
-pub mod Ending
+pub mod Ends

@@ -1,151 +1,151 @@
-// The text of the report.
-ghost use Rattle.std.specs.Prelude.{◌≡◌, ◌++◌, OnOk, IfOk, length, flat_map, decimal, All};
-ghost use Rattle.pa_meaning.specs.Contracts.{ports};
-ghost use Rattle.pa_engine.specs.Report as spec;
+// Each answer is put as soon as it is made.
+ghost use Rattle.std.specs.Prelude.{◌≡◌, ◌≤◌, IfOk, IfErr, OnOk, OnErr, IsErr, IsErrOf, All, true, flat_map};
+ghost use Rattle.std.specs.List.{list_any};
+ghost use Rattle.pa_desk.specs.Causes.{Rose, HasCause};
+ghost use Rattle.pa_desk.specs.Taken.{with_bytes, TookPrefix};
+ghost use Rattle.pa_script.specs.Ops.{IsWellFormedOp, IsWellFormedLine};
+ghost use Rattle.pa_answers.specs.Built.{is_built};
+ghost use Rattle.pa_cert.specs.Tables.{is_refused as is_refused_answer};
+ghost use Rattle.pa_cert.specs.AnswerText.{answer_text, report_of, end_line};
+ghost use Rattle.pa_answers.specs.Answers.{answer_of, answered, answers_from, past};
+ghost use Rattle.pa_engine.specs.Ends.{IsPut, some_refused, status_of};
 
-use crate::answer::{Answer, Answered};
-use crate::ending::Text;
-use crate::script::Op;
-use itoa::Buffer;
-use pa_contract::Contract;
-use pa_names::{Name, Names};
-use pa_row::Row;
-use pa_term::push_row;
+use crate::Status;
+use pa_answers::answer_line;
+use pa_cert::{LineAnswer, Table, push_answer, push_end};
+use pa_desk::{PutFault, Sink, put_all};
+use pa_script::{Script, ScriptLine};
 use std::alloc::{AllocError, Global};
 
-// The names, with a space before each.
-fn push_names(text: &mut Vec<u8>, names: &Names) -> Result<(), AllocError>
-    ensures { OnOk result (text.new.items ≡ text.old.items ++ spec.names_text names.now) }
+/// Why a line is not answered to its end.
+#[derive(Clone, Copy, Debug, PartialEq, Eq)]
+pub enum StepFault {
+    /// Memory ran out before anything was put.
+    Memory,
+    /// The output did not take the answer whole.
+    Write(PutFault),
+}
+
+// The text of a line's answer.
+fn text_of(alloc: Global, line: &ScriptLine, answer: &LineAnswer) -> Result<Vec<u8>, AllocError>
+    ensures { IfOk result (λ text. text.items ≡ answer_text (record { line = line.now; answer = answer.now })) }
 {
-    for place in 0..names.len() {
-        text.push(b' ')?;
-        text.extend_from_slice(names.at(place).bytes())?;
+    let mut text = Vec::new(alloc);
+    push_answer(&mut text, line, answer)?;
+    Ok(text)
+}
+
+/// Answers a line, brings the table past the answer, and puts the answer's text. True says that the answer
+/// is a refusal. The line asks for an operation that is built, and is well formed.
+///
+/// After `Memory` the table is as it was and nothing was put. After `Write` the table has gone past the
+/// answer, and the output took a front of its text. `Write(Failed)` comes only where the output's count of
+/// faults rose in this call.
+pub fn answer_next<O: Sink>(
+    alloc: Global,
+    table: &mut Table,
+    line: &ScriptLine,
+    out: &mut O,
+) -> Result<bool, StepFault>
+    requires built { is_built line.now.op ≡ true }
+    requires well_formed { IsWellFormedOp line.now.op }
+    ensures taken { OnOk result (O.took out.new ≡ with_bytes (O.took out.old) (answer_text (answered table.old line.now))) }
+    ensures refused { IfOk result (λ refused. refused ≡ is_refused_answer (answer_of table.old line.now.op)) }
+    ensures advanced { ¬ IsErrOf result StepFault.Memory → table.new ≡ past table.old line.now }
+    ensures memory { IsErrOf result StepFault.Memory → (table.new ≡ table.old) × (O.took out.new ≡ O.took out.old) }
+    ensures front { OnErr result (TookPrefix (O.took out.old) (O.took out.new) (answer_text (answered table.old line.now))) }
+    ensures cause { HasCause (StepFault.Write PutFault.Failed) ⊥ (O.faults out.old) (O.faults out.new) result }
+{
+    let Ok(answer) = answer_line(alloc, table, line) else {
+        return Err(StepFault::Memory);
+    };
+    let Ok(text) = text_of(alloc, line, &answer) else {
+        return Err(StepFault::Memory);
+    };
+    let refused = answer.is_refused();
+    if table.advance(alloc, line, answer).is_err() {
+        return Err(StepFault::Memory);
     }
-    Ok(())
-}
-
-// A word, and then the names.
-fn push_names_line(text: &mut Vec<u8>, word: &str, names: &Names) -> Result<(), AllocError>
-    ensures { OnOk result (text.new.items ≡ text.old.items ++ spec.names_line word.now names.now) }
-{
-    text.extend_from_slice(word.as_bytes())?;
-    push_names(text, names)?;
-    text.extend_from_slice(b"\n")
-}
-
-// A word, and then the row.
-fn push_row_line(text: &mut Vec<u8>, word: &str, names: &Names, row: &Row) -> Result<(), AllocError>
-    requires { length row.now.c ≡ length names.now }
-    ensures { OnOk result (text.new.items ≡ text.old.items ++ spec.row_line word.now names.now row.now) }
-{
-    text.extend_from_slice(word.as_bytes())?;
-    push_row(text, row, names)?;
-    text.extend_from_slice(b"\n")
-}
-
-// A line for each row, which begins with the word.
-fn push_rows(text: &mut Vec<u8>, word: &str, names: &Names, rows: &[Row]) -> Result<(), AllocError>
-    requires { All (λ row. length row.c ≡ length names.now) rows.now }
-    ensures { OnOk result (text.new.items ≡ text.old.items ++ spec.rows_lines word.now names.now rows.now) }
-{
-    for row in rows {
-        push_row_line(text, word, names, row)?;
-    }
-    Ok(())
-}
-
-// The names of a contract's ports, inputs first.
-fn port_names(contract: &Contract) -> Result<Names, AllocError>
-    ensures { IfOk result (λ names. names ≡ ports contract.now) }
-{
-    match contract.inputs.union(&contract.outputs) {
-        Ok(names) => Ok(names),
-        Err(_) => Err(AllocError),
-    }
-}
-
-// The ports, and then the rows over them.
-fn push_contract(text: &mut Vec<u8>, contract: &Contract) -> Result<(), AllocError>
-    ensures { OnOk result (text.new.items ≡ text.old.items ++ spec.contract_text contract.now) }
-{
-    let ports = port_names(contract)?;
-    push_names_line(text, "inputs", &contract.inputs)?;
-    push_names_line(text, "outputs", &contract.outputs)?;
-    push_rows(text, "assume ", &contract.inputs, &contract.assumptions)?;
-    push_rows(text, "guarantee ", &ports, &contract.guarantees)
-}
-
-// The canonical text of a merge.
-fn push_merge(text: &mut Vec<u8>, name: &Name, left: &Name, right: &Name) -> Result<(), AllocError>
-    ensures { OnOk result (text.new.items ≡ text.old.items ++ spec.merge_text name.now left.now right.now) }
-{
-    text.extend_from_slice(b"merge ")?;
-    text.extend_from_slice(name.bytes())?;
-    text.extend_from_slice(b" = ")?;
-    text.extend_from_slice(left.bytes())?;
-    text.extend_from_slice(b" ")?;
-    text.extend_from_slice(right.bytes())
-}
-
-// The canonical text of an operation.
-fn push_op(text: &mut Vec<u8>, op: &Op) -> Result<(), AllocError>
-    ensures { OnOk result (text.new.items ≡ text.old.items ++ spec.op_text op.now) }
-{
-    match op {
-        Op::Merge {
-            result,
-            left,
-            right,
-        } => push_merge(text, result, left, right),
+    match put_all(out, &text) {
+        Ok(()) => Ok(refused),
+        Err(fault) => Err(StepFault::Write(fault)),
     }
 }
 
-// What an answer says.
-fn push_body(text: &mut Vec<u8>, answer: &Answer) -> Result<(), AllocError>
-    ensures { OnOk result (text.new.items ≡ text.old.items ++ spec.body_text answer.now) }
+// Answers the lines one after the other. True says that some answer is a refusal.
+fn put_answers<O: Sink>(
+    alloc: Global,
+    mut table: Table,
+    lines: &[ScriptLine],
+    out: &mut O,
+) -> Result<bool, PutFault>
+    requires built { All (λ line. is_built line.op ≡ true) lines.now }
+    requires well_formed { All IsWellFormedLine lines.now }
+    ensures taken { OnOk result (O.took out.new ≡ with_bytes (O.took out.old) (flat_map answer_text (answers_from table lines.now))) }
+    ensures refused { IfOk result (λ refused. refused ≡ some_refused (answers_from table lines.now)) }
+    ensures front { OnErr result (TookPrefix (O.took out.old) (O.took out.new) (flat_map answer_text (answers_from table lines.now))) }
+    ensures cause { HasCause PutFault.Failed ⊥ (O.faults out.old) (O.faults out.new) result }
 {
-    match answer {
-        Answer::Merged { contract } => push_contract(text, contract),
+    let mut refused = false;
+    for line in lines {
+        match answer_next(alloc, &mut table, line, out) {
+            Ok(is_refusal) => refused = refused || is_refusal,
+            Err(StepFault::Memory) => return Err(PutFault::Memory),
+            Err(StepFault::Write(fault)) => return Err(fault),
+        }
     }
+    Ok(refused)
 }
 
-// The digits of a number.
-fn push_number(text: &mut Vec<u8>, number: u64) -> Result<(), AllocError>
-    ensures { OnOk result (text.new.items ≡ text.old.items ++ decimal number) }
+// Puts the last line of a report, which has the number of its answers.
+fn put_end<O: Sink>(alloc: Global, count: usize, out: &mut O) -> Result<(), PutFault>
+    ensures taken { OnOk result (O.took out.new ≡ with_bytes (O.took out.old) (end_line count)) }
+    ensures front { OnErr result (TookPrefix (O.took out.old) (O.took out.new) (end_line count)) }
+    ensures cause { HasCause PutFault.Failed ⊥ (O.faults out.old) (O.faults out.new) result }
 {
-    let mut buffer = Buffer::new();
-    text.extend_from_slice(buffer.format(number).as_bytes())
-}
-
-// A script line, and then what its answer says.
-fn push_answer(text: &mut Vec<u8>, answered: &Answered) -> Result<(), AllocError>
-    ensures { OnOk result (text.new.items ≡ text.old.items ++ spec.answer_text answered.now) }
-{
-    text.extend_from_slice(b"@")?;
-    push_number(text, u64::from(answered.line.number))?;
-    text.extend_from_slice(b" ")?;
-    push_op(text, &answered.line.op)?;
-    text.extend_from_slice(b"\n")?;
-    push_body(text, &answered.answer)
-}
-
-fn push_answers(text: &mut Vec<u8>, answers: &[Answered]) -> Result<(), AllocError>
-    ensures { OnOk result (text.new.items ≡ text.old.items ++ flat_map spec.answer_text answers.now) }
-{
-    for answered in answers {
-        push_answer(text, answered)?;
+    let mut text = Vec::new(alloc);
+    if push_end(&mut text, count as u64).is_err() {
+        return Err(PutFault::Memory);
     }
-    Ok(())
+    put_all(out, &text)
 }
 
-/// The report of the answers to a script's lines, in their order.
-pub(crate) fn report_of(alloc: Global, answers: &[Answered]) -> Result<Text, AllocError>
-    ensures { IfOk result (λ text. text ≡ spec.report_of answers.now) }
+// Puts the report of the answers to the lines. True says that some answer is a refusal.
+fn put_whole<O: Sink>(
+    alloc: Global,
+    table: Table,
+    script: &Script,
+    out: &mut O,
+) -> Result<bool, PutFault>
+    requires built { All (λ line. is_built line.op ≡ true) script.now }
+    ensures taken { OnOk result (O.took out.new ≡ with_bytes (O.took out.old) (report_of (answers_from table script.now))) }
+    ensures refused { IfOk result (λ refused. refused ≡ some_refused (answers_from table script.now)) }
+    ensures front { OnErr result (TookPrefix (O.took out.old) (O.took out.new) (report_of (answers_from table script.now))) }
+    ensures cause { HasCause PutFault.Failed ⊥ (O.faults out.old) (O.faults out.new) result }
 {
-    let mut text = Vec::from_slice(alloc, b"pacti report 1\n")?;
-    push_answers(&mut text, answers)?;
-    text.extend_from_slice(b"end ")?;
-    push_number(&mut text, answers.len() as u64)?;
-    text.extend_from_slice(b"\n")?;
-    Ok(Text { bytes: text })
+    let lines: &[ScriptLine] = &script.lines;
+    put_all(out, b"pacti report 2\n")?;
+    let refused = put_answers(alloc, table, lines, out)?;
+    put_end(alloc, lines.len(), out)?;
+    Ok(refused)
+}
+
+/// Puts the report of the answers to the lines over the table, each answer as soon as it is made, and gives
+/// the status by which the run ends.
+pub(crate) fn put_report<O: Sink>(
+    alloc: Global,
+    table: Table,
+    script: &Script,
+    out: &mut O,
+) -> Status
+    requires built { All (λ line. is_built line.op ≡ true) script.now }
+    ensures { IsPut (Rose (O.faults out.old) (O.faults out.new)) (O.took out.old) (O.took out.new)
+        (report_of (answers_from table script.now)) (status_of (answers_from table script.now)) result }
+{
+    match put_whole(alloc, table, script, out) {
+        Ok(false) => Status::Done,
+        Ok(true) => Status::Refused,
+        Err(PutFault::Memory) => Status::Memory,
+        Err(PutFault::Failed) => Status::WriteFault,
+    }
 }

@@ -1,6 +1,9 @@
 // How a run ends.
 ghost use Rattle.std.specs.Prelude.{◌≡◌};
-ghost use Rattle.pa_engine.specs.Statuses.{number_of, line_of};
+ghost use Rattle.pa_engine.specs.Statuses.{number_of};
+
+use pa_json::DiagramFault;
+use pa_script::ScriptFault;
 
 /// One of the inputs.
 #[derive(Clone, Copy, Debug, PartialEq, Eq)]
@@ -12,17 +15,23 @@ pub enum Which {
 }
 
 /// Why an input is refused.
-#[derive(Clone, Copy, Debug, PartialEq, Eq)]
+#[derive(Drop)]
 pub enum InputFault {
-    /// The input is not of the form that is read so far.
-    Early(Which),
+    /// The diagram is refused. The fault is never `Memory`.
+    BadDiagram(DiagramFault),
+    /// The script is refused. The fault is never `Memory`.
+    BadScript(ScriptFault),
+    /// The script is one, and a line of it asks for an operation that is not answered yet.
+    EarlyScript,
 }
 
 /// How a run ends.
-#[derive(Clone, Copy, Debug, PartialEq, Eq)]
+#[derive(Drop)]
 pub enum Status {
-    /// Both inputs were read to their end, and the report was taken whole.
+    /// Both inputs were read to their end, the report was taken whole, and no answer is a refusal.
     Done,
+    /// As `Done`, but at least one answer is a refusal.
+    Refused,
     /// An input is refused; its line was written.
     Input(InputFault),
     /// The words are not accepted; the usage line was written.
@@ -41,24 +50,11 @@ pub fn status_number(status: &Status) -> u8
 {
     match status {
         Status::Done => 0,
+        Status::Refused => 1,
         Status::Input(_) => 2,
         Status::Usage => 3,
         Status::ReadFault(_) => 4,
         Status::WriteFault => 5,
         Status::Memory => 6,
-    }
-}
-
-// The line of a status, for those that have one.
-pub(crate) fn line_of_status(status: &Status) -> &'static str
-    ensures { result.now ≡ line_of status.now }
-{
-    match status {
-        Status::Input(InputFault::Early(Which::Diagram)) => "input: diagram early\n",
-        Status::Input(InputFault::Early(Which::Script)) => "input: script early\n",
-        Status::Usage => "usage: pacti DIAGRAM SCRIPT\n",
-        Status::ReadFault(Which::Diagram) => "read fault: diagram\n",
-        Status::ReadFault(Which::Script) => "read fault: script\n",
-        Status::Done | Status::WriteFault | Status::Memory => "",
     }
 }

@@ -1,61 +1,132 @@
 // The whole program but for its edge.
-ghost use Rattle.std.specs.Prelude.{◌≡◌, map, string_bytes};
+ghost use Rattle.std.specs.Prelude.{◌≡◌, ◌⊎◌, map, string_bytes, IfOk, true};
 ghost use Rattle.pa_desk.specs.Causes.{Rose};
+ghost use Rattle.pa_cert.specs.AnswerText.{report_of};
+ghost use Rattle.pa_holds.specs.Tables.{AreTrue};
+ghost use Rattle.pa_answers.specs.Answers.{AreFormed};
+ghost use Rattle.pa_engine.specs.Inputs.{all_built};
 ghost use Rattle.pa_engine.specs.Statuses.{line_of};
-ghost use Rattle.pa_engine.specs.Outcome.{IsCaused, IsPut, TookTrueReport};
+ghost use Rattle.pa_engine.specs.Ends as spec;
 
 use crate::Status;
-use crate::ending::{Ending, ending_of};
-use crate::status::line_of_status;
+use crate::inputs::{Inputs, read_inputs};
+use crate::lines::line_of_status;
+use crate::report::put_report;
 use crate::words::paths_of;
+use pa_cert::Table;
 use pa_desk::{PutFault, Shelf, Sink, put_all};
+use pa_json::Diagram;
 use std::alloc::{AllocError, Global};
 
-// Puts a text, and ends with this status where it was taken whole.
-fn put_text<O: Sink>(out: &mut O, text: &[u8], status: Status) -> Status
-    ensures { IsPut (Rose (O.faults out.old) (O.faults out.new)) (O.took out.old) (O.took out.new) text.now status result }
+// Puts the line of a status that has one.
+fn put_line<O: Sink>(alloc: Global, out: &mut O, status: Status) -> Status
+    ensures { spec.IsPut (Rose (O.faults out.old) (O.faults out.new)) (O.took out.old) (O.took out.new) (line_of status) status result }
 {
-    match put_all(out, text) {
+    let Ok(text) = line_of_status(alloc, &status) else {
+        return Status::Memory;
+    };
+    match put_all(out, &text) {
         Ok(()) => status,
         Err(PutFault::Memory) => Status::Memory,
         Err(PutFault::Failed) => Status::WriteFault,
     }
 }
 
-// Puts the line of a status that has one.
-fn put_line<O: Sink>(out: &mut O, status: Status) -> Status
-    ensures { IsPut (Rose (O.faults out.old) (O.faults out.new)) (O.took out.old) (O.took out.new) (line_of status) status result }
+// Puts the line of what stops the run. Want of memory has none.
+#[tactic(auto, using(crate::proofs::Ends::put_nothing))]
+fn put_stop<O: Sink>(alloc: Global, out: &mut O, status: Status) -> Status
+    ensures put { spec.IsPut (Rose (O.faults out.old) (O.faults out.new)) (O.took out.old) (O.took out.new) (line_of status) status result }
+    ensures memory { status ≡ Status.Memory → (result ≡ Status.Memory) × (O.took out.new ≡ O.took out.old) }
 {
-    put_text(out, line_of_status(&status).as_bytes(), status)
+    match status {
+        Status::Memory => Status::Memory,
+        other => put_line(alloc, out, other),
+    }
 }
 
-/// Does all that the program does: reads the diagram and the script at the two paths that `words`
-/// are, answers the script's line, and puts the report. `words` are the words after the program's
-/// name.
+// The table that a diagram gives.
+fn table_of(diagram: Diagram) -> Result<Table, AllocError>
+    ensures value { IfOk result (λ table. table ≡ spec.table_of diagram) }
+    ensures formed { AreFormed (spec.table_of diagram) }
+{
+    let Diagram {
+        contracts,
+        parts,
+        nominal,
+    } = diagram;
+    let contracts = contracts.with_all(parts)?;
+    Ok(Table::new(contracts, nominal))
+}
+
+// Puts the report of the answers to the script over the diagram.
+fn answer_all<O: Sink>(alloc: Global, inputs: Inputs, out: &mut O) -> Status
+    requires { all_built inputs.script ≡ true }
+    ensures put { spec.IsPut (Rose (O.faults out.old) (O.faults out.new)) (O.took out.old) (O.took out.new)
+        (report_of (spec.answers_of inputs.diagram inputs.script)) (spec.status_of (spec.answers_of inputs.diagram inputs.script)) result }
+    ensures truth { AreTrue (spec.table_of inputs.diagram) (spec.answers_of inputs.diagram inputs.script) }
+{
+    let Inputs { diagram, script } = inputs;
+    match table_of(diagram) {
+        Ok(table) => put_report(alloc, table, &script, out),
+        Err(AllocError) => Status::Memory,
+    }
+}
+
+// Reads the inputs and puts the report, or the line of what stops the run.
+fn run_to_end<H: Shelf, O: Sink>(
+    alloc: Global,
+    words: &[String],
+    shelf: &mut H,
+    out: &mut O,
+) -> Status
+    ensures caused { spec.IsCaused (record {
+      words = map string_bytes words.now;
+      told = H.holds shelf.old;
+      read = Rose (H.faults shelf.old) (H.faults shelf.new);
+      write = Rose (O.faults out.old) (O.faults out.new);
+      old = O.took out.old;
+      new = O.took out.new;
+    }) result }
+    ensures holds { H.holds shelf.new ≡ H.holds shelf.old }
+{
+    let Some((diagram, script)) = paths_of(words) else {
+        return put_line(alloc, out, Status::Usage);
+    };
+    match read_inputs(alloc, diagram, script, shelf) {
+        Ok(inputs) => answer_all(alloc, inputs, out),
+        Err(status) => put_stop(alloc, out, status),
+    }
+}
+
+/// Does all that the program does: reads the diagram and the script at the two paths that `words` are,
+/// answers each line of the script over the diagram's contracts and those of the earlier answers, and puts
+/// each answer as soon as it is made. `words` are the words after the program's name.
 ///
-/// The first fault ends the run, in this order: the words, then for the diagram and the script the
-/// fetch and the reading, then the output. A fault but those of the output puts its line instead of
-/// the report. After a fault of writing, and where memory ran out, the output took a front of what was
-/// to be put, or nothing.
+/// The first fault ends the run, in this order: the words, then for the diagram and the script the fetch and
+/// the reading, then the output. A script that asks for an operation that is not answered yet is a fault of
+/// the script, told where the script has no other. A fault but those of the output puts its line instead of
+/// the report. After a fault of writing, and where memory ran out, the output took a front of what was to be
+/// put, or nothing.
 pub fn run<H: Shelf, O: Sink>(
     alloc: Global,
     words: &Vec<String>,
     shelf: &mut H,
     out: &mut O,
 ) -> Status
-    ensures headline { result ≡ Status.Done → TookTrueReport (map string_bytes words.now.items) (H.holds shelf.old) (O.took out.old) (O.took out.new) }
-    ensures caused { IsCaused (map string_bytes words.now.items) (H.holds shelf.old)
-        (Rose (H.faults shelf.old) (H.faults shelf.new)) (Rose (O.faults out.old) (O.faults out.new))
-        (O.took out.old) (O.took out.new) result }
+    ensures headline { spec.IsAnswered result
+        → spec.TookTrueReport (map string_bytes words.now.items) (H.holds shelf.old) (O.took out.old) (O.took out.new) result }
+    ensures caused { spec.IsCaused (record {
+      words = map string_bytes words.now.items;
+      told = H.holds shelf.old;
+      read = Rose (H.faults shelf.old) (H.faults shelf.new);
+      write = Rose (O.faults out.old) (O.faults out.new);
+      old = O.took out.old;
+      new = O.took out.new;
+    }) result }
+    ensures complete { (ready : spec.IsReady (map string_bytes words.now.items) (H.holds shelf.old))
+        → ¬ Rose (H.faults shelf.old) (H.faults shelf.new) → ¬ Rose (O.faults out.old) (O.faults out.new)
+        → spec.IsWhole ready (O.took out.old) (O.took out.new) result ⊎ (result ≡ Status.Memory) }
     ensures holds { H.holds shelf.new ≡ H.holds shelf.old }
 {
-    let Some((diagram, script)) = paths_of(words) else {
-        return put_line(out, Status::Usage);
-    };
-    match ending_of(alloc, diagram, script, shelf) {
-        Err(AllocError) => Status::Memory,
-        Ok(Ending::Report(text)) => put_text(out, &text.bytes, Status::Done),
-        Ok(Ending::Input(fault)) => put_line(out, Status::Input(fault)),
-        Ok(Ending::ReadFault(which)) => put_line(out, Status::ReadFault(which)),
-    }
+    run_to_end(alloc, words, shelf, out)
 }

@@ -1,0 +1,63 @@
+-- What stands at the paths, and how a run stops at an input.
+use Rattle.std.specs.Prelude.{◌≡◌, ◌⊎◌, ℕ, List, Option, Some, IfSome, Result, Ok, Err, Bool, true, false}
+use Rattle.std.specs.List.{list_all}
+use Rattle.pa_desk.specs.Files.{Files, content_at, IsMissing}
+use Rattle.pa_json.specs.Diagrams.{Diagram}
+use Rattle.pa_json.specs.Diagram.{diagram_of}
+use Rattle.pa_json.specs.declared.fault.DiagramFault.{DiagramFault}
+use Rattle.pa_script.specs.declared.op.ScriptLine.{ScriptLine}
+use Rattle.pa_script.specs.declared.fault.ScriptFault.{ScriptFault}
+use Rattle.pa_script.specs.Script.{script_of}
+use Rattle.pa_answers.specs.Built.{is_built}
+use Rattle.pa_engine.specs.declared.status.Status.{Status}
+use Rattle.pa_engine.specs.declared.status.Status.TheVariants.{Input, ReadFault}
+use Rattle.pa_engine.specs.declared.status.InputFault.TheVariants.{BadDiagram, BadScript, EarlyScript}
+use Rattle.pa_engine.specs.declared.status.Which.TheVariants as which
+use Rattle.pa_engine.specs.Words.{Paths}
+
+-- the bytes are what stands at the path; a shelf that tells no files leaves them open
+abbrev pub StandsAt : Option Files → List ℕ → List ℕ → Type 0
+StandsAt told path bytes = IfSome told (λ files. content_at path files ≡ Some bytes)
+
+-- what stands at the path reads as this
+pub record ReadsAt {X : Type 0} (read : List ℕ → X) (told : Option Files) (path : List ℕ) (x : X) : Type 0 where
+  pub bytes : List ℕ
+  pub stands : StandsAt told path bytes
+  pub is : read bytes ≡ x
+
+-- the one path has this diagram, and the other a script of these lines
+pub record AreRead (told : Option Files) (paths : Paths) (diagram : Diagram) (lines : List ScriptLine) : Type 0 where
+  pub diagram_at : ReadsAt diagram_of told paths.diagram (Ok diagram)
+  pub script_at : ReadsAt script_of told paths.script (Ok lines)
+
+-- whether each line asks for an operation that is built
+abbrev pub all_built : List ScriptLine → Bool
+all_built lines = list_all (λ line. is_built line.op) lines
+
+-- the bytes are no diagram, and the status tells its fault
+abbrev pub IsBadDiagram : List ℕ → Status → Type 0
+IsBadDiagram bytes status = (fault : DiagramFault) × (diagram_of bytes ≡ Err fault) × (status ≡ Input (BadDiagram fault))
+
+-- the bytes are no script, and the status tells its fault
+abbrev pub IsBadScript : List ℕ → Status → Type 0
+IsBadScript bytes status = (fault : ScriptFault) × (script_of bytes ≡ Err fault) × (status ≡ Input (BadScript fault))
+
+-- the bytes are a script with a line whose operation is not built, and the status tells that
+abbrev pub IsEarlyScript : List ℕ → Status → Type 0
+IsEarlyScript bytes status = (lines : List ScriptLine) × (script_of bytes ≡ Ok lines) × (all_built lines ≡ false) × (status ≡ Input EarlyScript)
+
+-- The run stops at the diagram by this status: what stands there is none, or it could not be fetched. `read` says that the
+-- shelf's count of faults rose in this call.
+abbrev pub IsNoDiagram : Option Files → List ℕ → Type 0 → Status → Type 0
+IsNoDiagram told path read status = ((bytes : List ℕ) × StandsAt told path bytes × IsBadDiagram bytes status)
+    ⊎ ((status ≡ ReadFault which.Diagram) × (IsMissing told path ⊎ read))
+
+-- the run stops at the script
+abbrev pub IsNoScript : Option Files → List ℕ → Type 0 → Status → Type 0
+IsNoScript told path read status = ((bytes : List ℕ) × StandsAt told path bytes × (IsBadScript bytes status ⊎ IsEarlyScript bytes status))
+    ⊎ ((status ≡ ReadFault which.Script) × (IsMissing told path ⊎ read))
+
+-- the status by which a run stops at its inputs: at the diagram, or behind a diagram at the script
+abbrev pub IsStopped : Option Files → Paths → Type 0 → Status → Type 0
+IsStopped told paths read status = IsNoDiagram told paths.diagram read status
+    ⊎ ((diagram : Diagram) × ReadsAt diagram_of told paths.diagram (Ok diagram) × IsNoScript told paths.script read status)
