@@ -2,7 +2,7 @@
 """Writes the inputs of merge.sh into the folder that is named: inputs.py FOLDER"""
 import sys
 
-MOST_BYTES = 1_048_576
+MOST_BYTES = 2_097_152
 PORTS = 64
 ROWS = 256
 
@@ -33,19 +33,17 @@ def ordinary():
 
 
 def padded(length):
-    """The text of a diagram with names of 64 bytes and bounds of 18 digits, and blanks in its terms up to this length."""
+    """The text of a diagram with names of 64 bytes and bounds of 18 digits, and blanks, most in its terms, up to this length."""
     ports = ['unit_%059d' % number for number in range(PORTS)]
     turned = ports[::-1]
     left, right = 10 ** 17, 2 * 10 ** 17
 
-    def with_blanks(blanks, last):
-        terms = rows(turned, right, blanks)
-        terms[-1] += ' ' * last
-        return diagram(contract('A', ports, rows(ports, left, blanks)), contract('B', turned, terms))
+    def with_blanks(blanks):
+        return diagram(contract('A', ports, rows(ports, left, blanks)), contract('B', turned, rows(turned, right, blanks)))
 
-    bare = len(with_blanks('', 0))
-    each, last = divmod(length - bare, 2 * 2 * ROWS)
-    return with_blanks(' ' * each, last)
+    each = (length - len(with_blanks(''))) // (2 * 2 * ROWS)
+    text = with_blanks(' ' * each)
+    return text + ' ' * (length - len(text))
 
 
 def repeated(length):
