@@ -15,6 +15,7 @@ use Rattle.pa_json.specs.Diagrams.{Diagram, IsDiagram, names_of}
 use Rattle.pa_holds.specs.Tables.{AreTrue}
 use Rattle.pa_answers.specs.Built.{is_built}
 use Rattle.pa_answers.specs.Answers.{AreFormed}
+use Rattle.pa_answers.proofs.Truths.{answers_true}
 use Rattle.pa_engine.specs.Inputs.{all_built}
 use Rattle.pa_engine.specs.Ends.{table_of, answers_of}
 
@@ -41,5 +42,7 @@ each_built (line ∷ lines) h = All-cons (λ l. is_built l.op ≡ true) line lin
     rest true e = e
     rest false e = absurd (cc)
 
-pub diagram_answers : (d : Diagram) (lines : List ScriptLine) → AreFormed (table_of d) → all_built lines ≡ true → All IsWellFormedLine lines → AreTrue (table_of d) (answers_of d lines)
-diagram_answers d lines formed built well_formed = ?
+-- all answers to a script over a diagram are true
+pub diagram_answers : (d : Diagram) (lines : List ScriptLine) → AreFormed (table_of d) → all_built lines ≡ true → All IsWellFormedLine lines
+    → AreTrue (table_of d) (answers_of d lines)
+diagram_answers d lines formed built well_formed = answers_true lines (table_of d) formed (each_built lines built) well_formed

@@ -8,9 +8,7 @@ use Rattle.std.proofs.lemmas.List.{take_all}
 use Rattle.pa_desk.specs.Files.{Files, content_at, GivesFront}
 use Rattle.pa_json.specs.Diagrams.{Diagram}
 use Rattle.pa_json.specs.Diagram.{diagram_of}
-use Rattle.pa_json.specs.Upgrades.{upgrade_of}
-use Rattle.pa_json.specs.declared.limits.TheConstants.{MOST_DIAGRAM_BYTES, MOST_UPGRADE_BYTES}
-use Rattle.pa_json.specs.declared.fault.DiagramFault.{DiagramFault}
+use Rattle.pa_json.specs.declared.limits.TheConstants.{MOST_DIAGRAM_BYTES}
 use Rattle.pa_json.specs.declared.fault.DiagramFault.TheVariants as diagram
 use Rattle.pa_script.specs.declared.op.ScriptLine.{ScriptLine}
 use Rattle.pa_script.specs.declared.read.TheConstants.{MOST_SCRIPT}
@@ -60,28 +58,22 @@ reads_at told path read bytes x front is = record { bytes = front.content; stand
 
 -- ---- diagrams
 
-pub long_diagram : (bytes : List ℕ) → MOST_DIAGRAM_BYTES < length bytes → diagram_of bytes ≡ Err diagram.TooLong
+long_diagram : (bytes : List ℕ) → MOST_DIAGRAM_BYTES < length bytes → diagram_of bytes ≡ Err diagram.TooLong
 long_diagram bytes more = cond-true _ _ _ (lt-ltb _ _ more)
 
-pub long_upgrade : (bytes : List ℕ) → MOST_UPGRADE_BYTES < length bytes → upgrade_of bytes ≡ Err diagram.TooLong
-long_upgrade bytes more = cond-true _ _ _ (lt-ltb _ _ more)
+module _ (told : Option Files) (path bytes : List ℕ) (given : GivesFront told path MOST_DIAGRAM_BYTES bytes) where
+  diagram_front : ReadsAs told path diagram_of bytes
+  diagram_front = fetched told path diagram_of MOST_DIAGRAM_BYTES (Err diagram.TooLong) long_diagram bytes given
 
--- the diagram, or what it is upgraded to: `seen` is what a value says
-module _ {X T : Type 0} (read : List ℕ → Result X DiagramFault) (seen : T → X) (most : ℕ)
-    (long : (bytes : List ℕ) → most < length bytes → read bytes ≡ Err diagram.TooLong)
-    (told : Option Files) (path bytes : List ℕ) (given : GivesFront told path most bytes) where
-  diagram_front : ReadsAs told path read bytes
-  diagram_front = fetched told path read most (Err diagram.TooLong) long bytes given
-
-  pub diagram_stands : (r : Result T Status) → IfOk r (λ d. read bytes ≡ Ok (seen d)) → IfOk r (λ d. ReadsAt read told path (Ok (seen d)))
-  diagram_stands (Ok d) is = reads_at told path read bytes (Ok (seen d)) diagram_front is
+  pub diagram_stands : (r : Result Diagram Status) → IfOk r (λ d. diagram_of bytes ≡ Ok d) → IfOk r (λ d. ReadsAt diagram_of told path (Ok d))
+  diagram_stands (Ok d) is = reads_at told path diagram_of bytes (Ok d) diagram_front is
   diagram_stands (Err status) is = tt
 
-  pub no_diagram : (rose : Type 0) (r : Result T Status) → IfErr r (λ status. (status ≡ Memory) ⊎ IsBadDiagram read bytes status)
-      → IfErr r (λ status. (status ≡ Memory) ⊎ IsNoDiagram read told path rose status)
-  no_diagram rose (Ok d) h = tt
-  no_diagram rose (Err status) (inl memory) = inl memory
-  no_diagram rose (Err status) (inr (fault, bad, is)) =
+  pub no_diagram : (read : Type 0) (r : Result Diagram Status) → IfErr r (λ status. (status ≡ Memory) ⊎ IsBadDiagram bytes status)
+      → IfErr r (λ status. (status ≡ Memory) ⊎ IsNoDiagram told path read status)
+  no_diagram read (Ok d) h = tt
+  no_diagram read (Err status) (inl memory) = inl memory
+  no_diagram read (Err status) (inr (fault, bad, is)) =
       inr (inl (diagram_front.content, diagram_front.stands, (fault, sym diagram_front.same ∙ bad, is)))
 
 -- ---- scripts

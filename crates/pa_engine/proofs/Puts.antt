@@ -15,17 +15,20 @@ prefix_within old new first rest front =
     (n, omega arith, is ∙ ap (with_bytes old) (sym (take-append-le n first rest le)))
 
 -- the first part whole and a front of the rest are a front of the whole
-pub prefix_after : (old mid new : Option (List ℕ)) (first rest : List ℕ) → mid ≡ with_bytes old first → TookPrefix mid new rest → TookPrefix old new (first ++ rest)
+pub prefix_after : (old mid new : Option (List ℕ)) (first rest : List ℕ) → mid ≡ with_bytes old first → TookPrefix mid new rest
+    → TookPrefix old new (first ++ rest)
 prefix_after old mid new first rest whole front =
     let (n, le, is) = front in
     let longer : length (first ++ rest) ≡ length first + length rest = length-append first rest in (
       length first + n,
       omega arith,
-      is ∙ ap (λ told. with_bytes told (take n rest)) whole ∙ with_bytes-append old first (take n rest) ∙ ap (with_bytes old) (sym (take-append-add first rest n)),
+      is ∙ ap (λ told. with_bytes told (take n rest)) whole ∙ with_bytes-append old first (take n rest)
+          ∙ ap (with_bytes old) (sym (take-append-add first rest n)),
     )
 
 -- both parts whole are the whole
-pub both_parts : (old mid new : Option (List ℕ)) (first rest : List ℕ) → mid ≡ with_bytes old first → new ≡ with_bytes mid rest → new ≡ with_bytes old (first ++ rest)
+pub both_parts : (old mid new : Option (List ℕ)) (first rest : List ℕ) → mid ≡ with_bytes old first → new ≡ with_bytes mid rest
+    → new ≡ with_bytes old (first ++ rest)
 both_parts old mid new first rest a b = b ∙ ap (λ told. with_bytes told rest) a ∙ with_bytes-append old first rest
 
 -- where nothing more is put, nothing is a front

@@ -1,6 +1,7 @@
 -- The lines of a script one after the other: what is put so far, the table, and whether some answer was a refusal. Then the
 -- report in its three parts.
-use Rattle.std.proofs.Common.{◌≡◌, ◌≤◌, ◌<◌, ◌+◌, ℕ, List, [], ◌∷◌, ◌++◌, length, drop, get_or, refl, ap, sym, ◌∙◌, subst, Bool, true, false, ◌||◌, Option, arith}
+use Rattle.std.proofs.Common.{◌≡◌, ◌≤◌, ◌<◌, ◌+◌, ℕ, List, [], ◌∷◌, ◌++◌, length, drop, get_or, refl, ap, sym, ◌∙◌, subst}
+use Rattle.std.proofs.Common.{Bool, true, false, ◌||◌, Option, arith}
 use Rattle.std.specs.Prelude.{flat_map}
 use Rattle.std.proofs.lemmas.List.{drop_more, drop_all, length-map}
 use Rattle.pa_desk.specs.Taken.{with_bytes, TookPrefix}
@@ -28,7 +29,8 @@ or_more : (a b c : Bool) → ((a || b) || c) ≡ (a || (b || c))
 or_more true b c = refl
 or_more false b c = refl
 
-module _ (old now : Option (List ℕ)) (first table : Table) (lines : List ScriptLine) (place : ℕ) (refused : Bool) (at : IsAt old now first table lines place refused) where
+module _ (old now : Option (List ℕ)) (first table : Table) (lines : List ScriptLine) (place : ℕ) (refused : Bool)
+    (at : IsAt old now first table lines place refused) where
   module _ (line : ScriptLine) (within : place < length lines) (here : line ≡ get_or lines place line) where
     -- the answers that are left begin with that of the line
     left : answers_from table (drop place lines) ≡ answered table line ∷ answers_from (past table line) (drop (place + 1) lines)
@@ -66,7 +68,8 @@ module _ (old now : Option (List ℕ)) (first table : Table) (lines : List Scrip
     none_left = drop_all place lines past_all
 
     pub all_put : now ≡ with_bytes old (answers_text first lines)
-    all_put = ended old now (answers_text first lines) (subst (λ ls. IsUnderWay old now (answers_text first lines) (answers_text table ls)) none_left at.under_way)
+    all_put = ended old now (answers_text first lines)
+        (subst (λ ls. IsUnderWay old now (answers_text first lines) (answers_text table ls)) none_left at.under_way)
 
     pub all_told : refused ≡ some_refused (answers_from first lines)
     all_told = sym (or_false refused) ∙ ap (λ ls. refused || some_refused (answers_from table ls)) (sym none_left) ∙ at.refusals

@@ -28,10 +28,9 @@ pub enum InputFault {
 /// How a run ends.
 #[derive(Drop)]
 pub enum Status {
-    /// The inputs were read to their end, the report, in which no answer is a refusal, or the upgraded
-    /// diagram was taken whole.
+    /// Both inputs were read to their end, the report was taken whole, and no answer is a refusal.
     Done,
-    /// As `Done`, but at least one answer of the report is a refusal.
+    /// As `Done`, but at least one answer is a refusal.
     Refused,
     /// An input is refused; its line was written.
     Input(InputFault),

@@ -5,4 +5,3 @@ pub mod Shown
 pub mod Filters
 pub mod FilterTurns
 pub mod Placed
-pub mod Unlimited

@@ -1,6 +1,6 @@
 -- Which answer is given exactly, and where a fault stands: the problems that are solved, what is read at their ends, and the sums by which each
 -- certificate is checked before it is answered.
-use Rattle.std.specs.Prelude.{◌≡◌, ◌≤◌, ℕ, zero, suc, ℤ, pos, ◌+ℤ◌, ◌-ℤ◌, ◌*ℤ◌, int_lt, List, [], ◌∷◌, ◌++◌, length, map, replicate, get_or}
+use Rattle.std.specs.Prelude.{ℕ, zero, suc, ℤ, pos, ◌+ℤ◌, ◌-ℤ◌, ◌*ℤ◌, int_lt, List, [], ◌∷◌, ◌++◌, length, map, replicate, get_or}
 use Rattle.std.specs.Prelude.{Bool, true, false, if◌then◌else◌, Option, None, Some, Result, Ok, Err}
 use Rattle.std.specs.Int.RustNames.{int_div}
 use Rattle.std.specs.declared.cmp.Ordering.{Ordering}
@@ -20,7 +20,6 @@ use Rattle.pa_row.specs.declared.place.Sub.{Sub}
 use Rattle.pa_row.specs.declared.place.Sub.TheVariants.{Main, Base}
 use Rattle.pa_row.specs.declared.place.Spot.{Spot}
 use Rattle.pa_row.specs.declared.place.Spot.TheVariants.{Load, Pivot, Read, Check}
-use Rattle.pa_row.specs.declared.place.Place.{Place}
 use Rattle.pa_row.specs.declared.place.Halt.{Halt}
 use Rattle.pa_row.specs.declared.place.Halt.TheVariants as halt
 use Rattle.pa_row.specs.declared.fault.RowFault.{RowFault}
@@ -31,7 +30,6 @@ use Rattle.pa_fourier.specs.declared.fault.CleanFault.{CleanFault}
 use Rattle.pa_fourier.specs.declared.fault.CleanFault.TheVariants as cleaning
 use Rattle.pa_fourier.specs.Cleaning.{clean_in}
 use Rattle.pa_tableau.specs.Arithmetic.{at_width}
-use Rattle.pa_replay.specs.Limits.{most_bases}
 use Rattle.pa_replay.specs.Readings.{LeastRead}
 use Rattle.pa_bland.specs.declared.answer.Answer.{Answer}
 use Rattle.pa_bland.specs.declared.answer.Answer.TheVariants.{Least, NoWeights, Endless}
@@ -69,14 +67,6 @@ read_halt task sub reading.Wide = wide_in task sub Read (record {})
 -- the answer to the problem of these rows and this target
 abbrev pub solved_for : Task → Sub → List Row → List ℤ → ℕ → Result Answer Halt
 solved_for task sub rows target most = told_as (halt_of task sub) (answer_of (at_width 126) (record { rows = rows; target = target }) most)
-
--- no more bases than the limit of pivots can be chosen: as many of the rows' columns and of n artificial ones as there are lines
-abbrev pub HasFewBases : List Row → ℕ → ℕ → Type 0
-HasFewBases rows n most = (most_bases (length rows) n ≤ 4096) × (most_bases (length rows) n ≤ most)
-
--- the answer is not that the pivots were used up
-abbrev pub IsNotLimited : {A : Type 0} → Result A Halt → Type 0
-IsNotLimited r = (place : Place) → r ≡ Err (halt.PivotLimit place) → ⊥
 
 -- ---- certificates are checked
 -- the weights, once their sums over the rows were formed

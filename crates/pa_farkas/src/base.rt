@@ -9,7 +9,6 @@ ghost use Rattle.pa_row.specs.declared.place.Sub.TheVariants as Sub;
 ghost use Rattle.pa_farkas.specs.declared.base.Feasibility.TheVariants as Feasibility;
 ghost use Rattle.pa_row.specs.declared.place.Halt.TheVariants as Halt;
 ghost use Rattle.pa_farkas.specs.Alternatives.{IsFeasibility, IsMetAt, ShowsUnmet};
-ghost use Rattle.pa_farkas.specs.Answered.{HasFewBases, IsNotLimited};
 ghost use Rattle.pa_farkas.specs.Answered as spec;
 
 use crate::checked::{point_checked, weights_checked};
@@ -108,8 +107,14 @@ fn by_base(
     }
 }
 
-// The point that meets the rows, or the weights that show that none does.
-fn feasibility_of(
+/// Whether a point meets the rows: one that does, or weights that prove `0 <= -1` (J. Farkas, Theorie der einfachen
+/// Ungleichungen, 1902). Each is checked by sums before it is answered.
+///
+/// The rows have this many columns, at most 128, there are at most 4,096 of them, and `most` is at most 4,096. `PivotLimit`
+/// and `Wide` name the task and, at the problem with the target 0, a cell of the run, a number that is read at its end, or
+/// a sum of the check. `PivotLimit` comes exactly where the run has made `most` pivots and another one is to come, `Wide`
+/// exactly where a number passes 126 bits before that, and `Memory` where memory runs out.
+pub fn feasible(
     alloc: Global,
     rows: &[Row],
     columns: u32,
@@ -129,30 +134,4 @@ fn feasibility_of(
     };
     let answer = solved(alloc, &mut work, rows, &target, most, task, Sub::Base)?;
     by_base(alloc, rows, columns, task, answer)
-}
-
-/// Whether a point meets the rows: one that does, or weights that prove `0 <= -1` (J. Farkas, Theorie der einfachen
-/// Ungleichungen, 1902). Each is checked by sums before it is answered.
-///
-/// The rows have this many columns, at most 128, there are at most 4,096 of them, and `most` is at most 4,096. `PivotLimit`
-/// and `Wide` name the task and, at the problem with the target 0, a cell of the run, a number that is read at its end, or
-/// a sum of the check. `PivotLimit` comes exactly where the run has made `most` pivots and another one is to come, `Wide`
-/// exactly where a number passes 126 bits before that, and `Memory` where memory runs out.
-/// `PivotLimit` never comes where `most_bases` of the numbers of rows and of columns is at most `most`.
-pub fn feasible(
-    alloc: Global,
-    rows: &[Row],
-    columns: u32,
-    most: u32,
-    task: Task,
-) -> Result<Feasibility, Halt>
-    requires columns { All (λ r. length r.c ≡ columns) rows.now }
-    requires few { length rows.now ≤ 4096 }
-    requires short { columns ≤ 128 }
-    requires most { most ≤ 4096 }
-    ensures answer { IsAnswer Halt.Memory (spec.feasible_of columns rows.now most task) result }
-    ensures truth { IfOk result (IsFeasibility columns rows.now) }
-    ensures unlimited { HasFewBases rows.now columns most → IsNotLimited result }
-{
-    feasibility_of(alloc, rows, columns, most, task)
 }

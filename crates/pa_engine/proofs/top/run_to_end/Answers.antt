@@ -1,5 +1,5 @@
 use Rattle.std.proofs.Common.{⊎_elim, inr, sym, map, string_bytes}
-use Rattle.pa_engine.proofs.Ends.{caused_by_report, caused_by_stop, caused_by_upgrade}
+use Rattle.pa_engine.proofs.Ends.{caused_by_report, caused_by_stop}
 use Rattle.pa_engine.proofs.top.run_to_end.Goals as goal
 
 -- the report of the inputs is due, and was put
@@ -17,8 +17,3 @@ returns-in-Err g c = record {
       c.in-Err.ensures.err;
   holds = c.read_inputs.ensures.same;
 }
-
--- what an upgrade makes due was put
-pub returns-in-Some-clause-caused : goal.returns-in-Some-clause-caused
-returns-in-Some-clause-caused g c =
-    caused_by_upgrade (map string_bytes c.args.words.now) _ _ _ _ _ _ _ (sym c.in-Some.ensures) c.put_upgraded.ensures.due
