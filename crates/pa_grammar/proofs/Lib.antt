@@ -13,6 +13,7 @@ pub mod Sound
 pub mod Viable
 pub mod Steps
 pub mod Pushed
+pub mod WholeRows
 pub mod Taken
 pub mod Narrow
 pub mod Changes

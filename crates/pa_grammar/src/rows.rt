@@ -1,5 +1,5 @@
 // The rows of a term, from its sides.
-ghost use Rattle.std.specs.Prelude.{◌≡◌, ◌++◌, [], map, All, IfOk};
+ghost use Rattle.std.specs.Prelude.{◌≡◌, ◌++◌, [], map, pos, All, IfOk, IfSome};
 ghost use Rattle.pa_math.specs.Answers.{IsAnswer, seen_as, told_as};
 ghost use Rattle.pa_meaning.specs.Rows.{primitive};
 ghost use Rattle.pa_row.specs.Answers.{as_fault};
@@ -50,8 +50,23 @@ fn row_with(numbers: Vec<i128>) -> Row
     row
 }
 
-// The row that says that a vector is at most 0.
-fn row_of(alloc: Global, vector: &[Wide126]) -> Result<Row, RowFault>
+// The numerators of whole numbers. `None` where a fraction has another denominator.
+fn whole_numbers(alloc: Global, vector: &[Wide126]) -> Result<Option<Vec<i128>>, AllocError>
+    ensures { IfOk result (λ numbers. IfSome numbers (λ list. map spec.parts_of (map fraction_of vector.now) ≡ map (λ n. (n, pos 1)) list.items)) }
+{
+    let mut numbers = Vec::with_capacity(alloc, vector.len())?;
+    for fraction in vector {
+        let (num, den) = parts_in(*fraction);
+        if den != 1 {
+            return Ok(None);
+        }
+        numbers.push(num)?;
+    }
+    Ok(Some(numbers))
+}
+
+// The row of a vector over the least common multiple of the denominators.
+fn row_over(alloc: Global, vector: &[Wide126]) -> Result<Row, RowFault>
     ensures { IsAnswer RowFault.Memory (told_as as_fault (spec.row_of (map fraction_of vector.now))) result }
 {
     let Ok(parts) = parts_of(alloc, vector) else {
@@ -59,6 +74,17 @@ fn row_of(alloc: Global, vector: &[Wide126]) -> Result<Row, RowFault>
     };
     let point = point_of(alloc, &parts)?;
     Ok(row_with(point.p))
+}
+
+// The row that says that a vector is at most 0. Most vectors are whole numbers, which are the row's own.
+fn row_of(alloc: Global, vector: &[Wide126]) -> Result<Row, RowFault>
+    ensures { IsAnswer RowFault.Memory (told_as as_fault (spec.row_of (map fraction_of vector.now))) result }
+{
+    match whole_numbers(alloc, vector) {
+        Ok(Some(numbers)) => Ok(row_with(numbers)),
+        Ok(None) => row_over(alloc, vector),
+        Err(AllocError) => Err(RowFault::Memory),
+    }
 }
 
 // The vector plus or minus a bar pair.
