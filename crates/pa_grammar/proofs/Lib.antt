@@ -2,6 +2,7 @@ pub mod Bytes
 pub mod TermsMet
 pub mod Known
 pub mod TermAnswers
+pub mod RowColumns
 pub mod PlainAnswers
 pub mod Mentions
 pub mod Examples

@@ -62,6 +62,7 @@ pub fn read_term_with(
     ensures rows { IfOk result (λ rows. spec.AreRowsOf (scope_with names.now constants.now) text.now rows.items) }
     ensures only { (rows : List RowValue) → spec.AreRowsOf (scope_with names.now constants.now) text.now rows
         → IsAnswer TermFault.Memory (Ok rows) (seen_as (λ v. v.items) result) }
+    ensures columns { IfOk result (λ rows. All (λ row. length row.c ≡ length names.now) rows.items) }
     // A point meets the rows exactly where it meets the text.
     ensures meaning { IfOk result (λ rows. spec.SayTheText (scope_with names.now constants.now) text.now rows.items) }
     // Each refusal says what is the case, and comes where it is the case.
@@ -104,6 +105,7 @@ pub fn read_term(alloc: Global, text: &[u8], names: &Names) -> Result<Vec<Row>, 
     ensures rows { IfOk result (λ rows. spec.AreRowsOf (plain_scope names.now) text.now rows.items) }
     ensures only { (rows : List RowValue) → spec.AreRowsOf (plain_scope names.now) text.now rows
         → IsAnswer TermFault.Memory (Ok rows) (seen_as (λ v. v.items) result) }
+    ensures columns { IfOk result (λ rows. All (λ row. length row.c ≡ length names.now) rows.items) }
     // A point meets the rows exactly where it meets the text.
     ensures meaning { IfOk result (λ rows. spec.SayTheText (plain_scope names.now) text.now rows.items) }
     // Each refusal says what is the case, and comes where it is the case.

@@ -1,5 +1,6 @@
 -- Each clause is a lemma about the answer that is due.
 use Rattle.pa_grammar.specs.Lexer.{plain_scope}
+use Rattle.pa_grammar.proofs.RowColumns.{columns_clause}
 use Rattle.pa_grammar.proofs.TermAnswers.{rows_clause, only_rows, meaning_clause, syntax_is, syntax_due, literal_is, literal_due}
 use Rattle.pa_grammar.proofs.TermAnswers.{unknown_is, unknown_due, not_linear_is, not_linear_due, wide_is, wide_due}
 use Rattle.pa_grammar.proofs.terms.read_term.Goals as goal
@@ -11,6 +12,10 @@ returns-clause-rows c =
 pub returns-clause-only : goal.returns-clause-only
 returns-clause-only c =
     λ rows are. only_rows (λ v. v.items) (plain_scope c.args.names.now) c.args.text.now c.rows_without.result rows c.rows_without.ensures are
+
+pub returns-clause-columns : goal.returns-clause-columns
+returns-clause-columns c =
+    columns_clause (λ v. v.items) (plain_scope c.args.names.now) c.args.text.now c.rows_without.result c.rows_without.ensures
 
 pub returns-clause-meaning : goal.returns-clause-meaning
 returns-clause-meaning c =
