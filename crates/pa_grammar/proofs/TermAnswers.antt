@@ -292,7 +292,7 @@ rows_with s text t o is first =
     (ap first_true (faults_are t is.is_term) ∙ first)
     ∙ ap (λ w. rows_by w o (λ pair. slice_get (openings true (tokens_of_text s text)) pair)) (rows_are (length s.names) t)
 
-due_only : (s : Scope) (text : List ℕ) (t : Term) (rows : List Row) → IsTermOf s text t → IsLinear t → term_rows (length s.names) t ≡ Ok rows
+pub due_only : (s : Scope) (text : List ℕ) (t : Term) (rows : List Row) → IsTermOf s text t → IsLinear t → term_rows (length s.names) t ≡ Ok rows
     → term_answer s text ≡ Ok rows
 due_only s text t rows is linear same = rows_with s text t None is linear ∙ ap (told_as as_wide) same
 
