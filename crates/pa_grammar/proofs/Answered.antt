@@ -60,7 +60,7 @@ refused text = literal_fault (bare_tokens text)
 read_value_of : (text : List ℕ) (v : Value) → read text ≡ Ok v → IsValue v × (value_tokens v ≡ tokens_in (bare_tokens text))
 read_value_of text v is = value_clause (length text) (bare_tokens text) (Ok v) (sym is)
 
-due_value : (text : List ℕ) (r : ℤ × ℤ) → value_answer text ≡ Ok r → IsValueOf text r
+pub due_value : (text : List ℕ) (r : ℤ × ℤ) → value_answer text ≡ Ok r → IsValueOf text r
 due_value text r is =
     let found = ok_of (read text) (refused text) r is in
     let own = read_value_of text found.0 found.1 in
@@ -76,7 +76,7 @@ none_refused : (text : List ℕ) (l : Option ℕ) → refused text ≡ l → Are
 none_refused text None is literals = refl
 none_refused text (Some at) is literals = let first = (literal_some (bare_tokens text) at).0 is in absurd (literals first.place first.holds)
 
-due_only : (text : List ℕ) (v : Value) → IsValue v → value_tokens v ≡ tokens_in (bare_tokens text) → AreLiterals (bare_tokens text)
+pub due_only : (text : List ℕ) (v : Value) → IsValue v → value_tokens v ≡ tokens_in (bare_tokens text) → AreLiterals (bare_tokens text)
     → value_answer text ≡ Ok (parts (value_of v))
 due_only text v is_value same literals =
     ap (λ p. answer_of p (refused text)) (value_only (length text) (bare_tokens text) v is_value same)
