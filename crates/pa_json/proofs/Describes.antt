@@ -39,6 +39,7 @@ use Rattle.pa_json.specs.declared.limits.TheConstants.{MOST_DIAGRAM_BYTES, MOST_
 use Rattle.pa_json.specs.declared.fault.DiagramFault.{DiagramFault}
 use Rattle.pa_json.specs.declared.fault.DiagramFault.TheVariants.{TooLong, Json, Version, Shape, Wire, Limit}
 use Rattle.pa_json.specs.declared.fault.WireKind.TheVariants.{NoContract, NoPort, Twice}
+use Rattle.pa_json.proofs.Fractions.{pairs_found, pairs_are}
 use Rattle.pa_json.proofs.Names.{with_contracts-distinct, with_parts-distinct}
 use Rattle.pa_json.proofs.Steps.{both_taken}
 use Rattle.pa_json.proofs.Wires.{wired_once, once_distinct}
@@ -56,8 +57,8 @@ object_there key (string text) found is = absurd (cc)
 object_there key (array ds) found is = absurd (cc)
 object_there key (object ms) found is = (ms, refl)
 
-some_found : {X : Type 0} (f : Data → Option X) (found : Option Data) (x : X) → option_and_then f found ≡ Some x
-    → (d : Data) × (found ≡ Some d) × (f d ≡ Some x)
+some_found : {X Y : Type 0} (f : Y → Option X) (found : Option Y) (x : X) → option_and_then f found ≡ Some x
+    → (y : Y) × (found ≡ Some y) × (f y ≡ Some x)
 some_found f None x is = absurd (cc)
 some_found f (Some d) x is = (d, refl, is)
 
@@ -92,18 +93,22 @@ values_found : (path : List ℕ) (found : Option Data) (values : Nominal) → va
 values_found path None values is = cc
 values_found path (Some d) values is =
     let pairs = both_taken (pairs_of path d) (λ pairs. cond (nat_lt most_names (length pairs)) (Err (Limit path)) (Ok (values_from pairs))) values is in
-    let few = not_refused (nat_lt most_names (length pairs.0)) (Limit path) (values_from pairs.0) values pairs.2 in (
+    let few = not_refused (nat_lt most_names (length pairs.0)) (Limit path) (values_from pairs.0) values pairs.2 in
+    let held = some_found (collected named_fraction) (as_object d) pairs.0
+    (was_there (Shape path) (option_and_then (collected named_fraction) (as_object d)) pairs.0 pairs.1) in (
+      held.0,
+      held.1,
       pairs.0,
-      was_there (Shape path) (option_and_then (collected named_fraction) (as_object d)) pairs.0 pairs.1,
+      pairs_found held.0 pairs.0 held.2,
       ltb-false most_names (length pairs.0) few.0,
       sym few.1,
     )
 
 values_are : (path : List ℕ) (found : Option Data) (values : Nominal) → AreValues found values → values_of path found ≡ Ok values
 values_are path None values are = ap Ok (sym are)
-values_are path (Some d) values (pairs, there, few, is) =
+values_are path (Some d) values (ms, held, pairs, there, few, is) =
     joined (pairs_of path d) (λ pairs. cond (nat_lt most_names (length pairs)) (Err (Limit path)) (Ok (values_from pairs))) pairs values
-    (ap (needed (Shape path)) there)
+    (ap (λ found. needed (Shape path) (option_and_then (collected named_fraction) found)) held ∙ ap (needed (Shape path)) (pairs_are ms pairs there))
     (passed (nat_lt most_names (length pairs)) (Limit path) (values_from pairs) (le-ltb most_names (length pairs) few) ∙ ap Ok (sym is))
 
 -- ---- versions

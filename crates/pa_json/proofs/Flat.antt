@@ -21,6 +21,7 @@ use Rattle.pa_json.specs.Upgrades.{with_member, picked, keys_of, plain, each_pla
 use Rattle.pa_json.specs.Values.{fraction_of, named_fraction}
 use Rattle.pa_json.specs.declared.upgrading.Item.{Item}
 use Rattle.pa_json.specs.declared.upgrading.Item.TheVariants as of
+use Rattle.pa_json.proofs.Fractions.{pairs_are}
 
 -- ---- the word
 
@@ -164,9 +165,9 @@ named_flat key d pair is = by (is_name key) (fraction_of d) refl is
 
 values_flat : (found : Option Data) (values : Nominal) → AreValues found values → FoundFlat 1 found
 values_flat None values are = λ d there. absurd (cc)
-values_flat (Some e) values (pairs, is, few, same) = λ d there.
+values_flat (Some e) values (ms, held, pairs, is, few, same) = λ d there.
     let here : e ≡ d = cc in
-    subst (IsFlat 1) here (object_found_flat named_fraction named_flat e pairs is)
+    subst (IsFlat 1) here (object_found_flat named_fraction named_flat e pairs (ap (option_and_then (collected named_fraction)) held ∙ pairs_are ms pairs is))
 
 wire_flat : (names : List Name) (key : List ℕ) (d : Data) (wire : Name × Name) → wire_of names key d ≡ Some wire → IsFlat 0 d
 wire_flat names key d wire is = by (port_in names key) (name_in d) refl is

@@ -5,7 +5,7 @@ use Rattle.std.proofs.Common.{Option, Some, None, option_and_then, option_map}
 use Rattle.std.specs.List.{list_any}
 use Rattle.std.specs.Str.{bytes_eq}
 use Rattle.std.proofs.lemmas.Slice.Eq.{bytes_eq-Decides}
-use Rattle.serde_json.specs.Data.{Data, array, Items, no_items, item, Members}
+use Rattle.serde_json.specs.Data.{Data, array, Items, no_items, item, Members, no_members}
 use Rattle.serde_json.specs.Find.{get, get_member, as_array, as_number, as_u64}
 use Rattle.serde_json.proofs.Views.{get_member-put, get_member-put_other}
 use Rattle.pa_meaning.specs.Contracts.{Contract, Named, ports}
@@ -173,7 +173,7 @@ upgraded_describes d g first k = by k.is_layout
       is_layout =
           inr (
             second_version d,
-            subst (λ found. AreValues found no_values) (sym (second_get d (codes "constants") refl refl refl)) ([], refl, omega arith, refl),
+            subst (λ found. AreValues found no_values) (sym (second_get d (codes "constants") refl refl refl)) (no_members, refl, [], tt, omega arith, refl),
             refl,
           );
       contracts =
