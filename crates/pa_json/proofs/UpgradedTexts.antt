@@ -1,5 +1,5 @@
 -- The text of an upgraded tree: which it is, that it reads back, and that it describes what the first text describes.
-use Rattle.std.proofs.Common.{◌≡◌, ℕ, ◌+◌, ◌≤◌, ◌==◌, Bool, true, false, cond, List, ◌++◌, length, codes, refl, sym, ap, ◌∙◌, subst}
+use Rattle.std.proofs.Common.{◌≡◌, ℕ, ◌≤◌, ◌==◌, Bool, true, false, cond, List, ◌++◌, length, codes, refl, sym, ap, ◌∙◌, subst}
 use Rattle.std.proofs.Common.{arith}
 use Rattle.std.proofs.Common.{Option, Some, None, Result, Ok, Err, IfOk}
 use Rattle.std.specs.Prelude.{IsUtf8}
@@ -15,8 +15,8 @@ use Rattle.pa_json.specs.Diagram.{diagram_in}
 use Rattle.pa_json.specs.Diagrams.{Diagram}
 use Rattle.pa_json.specs.Found.{version_of}
 use Rattle.pa_json.specs.Tree.{tree_of}
-use Rattle.pa_json.specs.Upgrades.{upgraded, upgraded_text, is_first, upgrade_in, upgrade_of, IsUpgrade}
-use Rattle.pa_json.specs.declared.limits.TheConstants.{MOST_UPGRADE_BYTES}
+use Rattle.pa_json.specs.Upgrades.{upgraded, upgraded_text, within_diagrams, is_first, upgrade_in, upgrade_of, IsUpgrade}
+use Rattle.pa_json.specs.declared.limits.TheConstants.{MOST_DIAGRAM_BYTES, MOST_UPGRADE_BYTES}
 use Rattle.pa_json.specs.declared.fault.DiagramFault.{DiagramFault}
 use Rattle.pa_json.specs.declared.fault.DiagramFault.TheVariants.{TooLong, Json, Version, Shape}
 use Rattle.pa_json.proofs.Describes.{describes}
@@ -73,17 +73,18 @@ upgraded_from d text is =
     let seen = both_taken (needed (Shape (codes "/")) (as_object d)) _ text is in
     by (is_first d) refl seen.2
   where
-    by : (b : Bool) → is_first d ≡ b → cond b (and_then (diagram_in d) (λ _. Ok (upgraded_text d))) (Err Version) ≡ Ok text
+    by : (b : Bool) → is_first d ≡ b → cond b (and_then (diagram_in d) (λ _. within_diagrams (upgraded_text d))) (Err Version) ≡ Ok text
         → (g : Diagram) × (version_of d ≡ Some 1) × (diagram_in d ≡ Ok g)
-    by true first e = let g = both_taken (diagram_in d) (λ _. Ok (upgraded_text d)) text e in (g.0, is_version (version_of d) first, g.1)
+    by true first e = let g = both_taken (diagram_in d) (λ _. within_diagrams (upgraded_text d)) text e in (g.0, is_version (version_of d) first, g.1)
     by false first e = absurd (cc)
 
 -- both texts describe one diagram
 pub same_clause : {T : Type 0} (seen : T → List ℕ) (bytes slice : List ℕ) (d : Data) (memory : DiagramFault) (result : Result T DiagramFault)
     → slice ≡ bytes → length bytes ≤ MOST_UPGRADE_BYTES → IsUtf8 slice → read slice ≡ Some d → IsAnswer memory (upgrade_in d) (seen_as seen result)
-    → IfOk result (λ text. IsUtf8 (seen text)) → IfOk result (λ text. read (seen text) ≡ Some (upgraded d)) → IfOk result (λ text. IsUpgrade bytes (seen text))
-same_clause seen bytes slice d memory (Err e) same short utf8 is answer text back = tt
-same_clause seen bytes slice d memory (Ok new) same short utf8 is answer text back =
+    → IfOk result (λ text. length (seen text) ≤ MOST_DIAGRAM_BYTES) → IfOk result (λ text. IsUtf8 (seen text))
+    → IfOk result (λ text. read (seen text) ≡ Some (upgraded d)) → IfOk result (λ text. IsUpgrade bytes (seen text))
+same_clause seen bytes slice d memory (Err e) same short utf8 is answer few text back = tt
+same_clause seen bytes slice d memory (Ok new) same short utf8 is answer few text back =
     let from = upgraded_from d (seen new) answer in
     let old = describes d from.0 from.2 in
     record {
@@ -94,8 +95,11 @@ same_clause seen bytes slice d memory (Ok new) same short utf8 is answer text ba
         is_tree = ap tree_of (sym same) ∙ tree_of-read slice d utf8 is;
         describes = old;
       };
-      tree = upgraded d;
-      is_tree = tree_of-read (seen new) (upgraded d) text back;
+      after = record {
+        few = few;
+        tree = upgraded d;
+        is_tree = tree_of-read (seen new) (upgraded d) text back;
+        describes = upgraded_describes d from.0 from.1 old;
+      };
       second = second_version d;
-      after = upgraded_describes d from.0 from.1 old;
     }

@@ -7,10 +7,10 @@ use Rattle.serde_json.specs.Written.{compact_text}
 use Rattle.pa_math.specs.Answers.{and_then, needed, given}
 use Rattle.pa_json.specs.Diagram.{diagram_in}
 use Rattle.pa_json.specs.Diagrams.{Diagram}
-use Rattle.pa_json.specs.Described.{Describes, IsDescribed}
+use Rattle.pa_json.specs.Described.{IsDescribed}
 use Rattle.pa_json.specs.Found.{version_of}
 use Rattle.pa_json.specs.Tree.{tree_of}
-use Rattle.pa_json.specs.declared.limits.TheConstants.{MOST_UPGRADE_BYTES}
+use Rattle.pa_json.specs.declared.limits.TheConstants.{MOST_DIAGRAM_BYTES, MOST_UPGRADE_BYTES}
 use Rattle.pa_json.specs.declared.upgrading.Item.{Item}
 use Rattle.pa_json.specs.declared.upgrading.Item.TheVariants.{Contract, Part}
 use Rattle.pa_json.specs.declared.fault.DiagramFault.{DiagramFault}
@@ -66,9 +66,13 @@ upgraded_text d = compact_text (upgraded d) ++ 10 ∷ []
 abbrev pub is_first : Data → Bool
 is_first d = given false (version_of d) (λ version. version == 1)
 
+-- a text, where it is no longer than a diagram may be
+abbrev pub within_diagrams : List ℕ → Result (List ℕ) DiagramFault
+within_diagrams text = if nat_lt MOST_DIAGRAM_BYTES (length text) then Err TooLong else Ok text
+
 -- the text that a tree of version 1 is upgraded to, or its first fault
 abbrev pub upgrade_first : Data → Result (List ℕ) DiagramFault
-upgrade_first d = and_then (diagram_in d) (λ _. Ok (upgraded_text d))
+upgrade_first d = and_then (diagram_in d) (λ _. within_diagrams (upgraded_text d))
 
 -- the text that a tree is upgraded to, or its first fault
 abbrev pub upgrade_in : Data → Result (List ℕ) DiagramFault
@@ -79,11 +83,9 @@ upgrade_in d = and_then (needed (Shape (codes "/")) (as_object d)) (λ _.
 abbrev pub upgrade_of : List ℕ → Result (List ℕ) DiagramFault
 upgrade_of bytes = if nat_lt MOST_UPGRADE_BYTES (length bytes) then Err TooLong else and_then (needed Json (tree_of bytes)) upgrade_in
 
--- both texts are JSON whose trees describe one diagram, the second in version 2
+-- both texts describe one diagram, the second in version 2
 pub record IsUpgrade (old new : List ℕ) : Type 0 where
   pub diagram : Diagram
   pub before : IsDescribed old diagram
-  pub tree : Data
-  pub is_tree : tree_of new ≡ Some tree
-  pub second : version_of tree ≡ Some 2
-  pub after : Describes tree diagram
+  pub after : IsDescribed new diagram
+  pub second : version_of after.tree ≡ Some 2

@@ -1,5 +1,5 @@
 // Diagrams of version 1 written as diagrams of version 2.
-ghost use Rattle.std.specs.Prelude.{◌≡◌, ◌⊎◌, IfOk, IfErr, Ok, Err, Some, IsUtf8, option_map};
+ghost use Rattle.std.specs.Prelude.{◌≡◌, ◌≤◌, ◌⊎◌, IfOk, IfErr, Ok, Err, Some, IsUtf8, length, option_map};
 ghost use Rattle.serde_json.specs.Read.{read};
 ghost use Rattle.serde_json.specs.Find.{get};
 ghost use Rattle.serde_json.specs.View.{view, items_view, members_view};
@@ -9,7 +9,7 @@ ghost use Rattle.pa_json.specs.Diagram.{diagram_in};
 ghost use Rattle.pa_json.specs.Upgrades as spec;
 
 use crate::diagram::read_tree;
-use crate::limits::MOST_UPGRADE_BYTES;
+use crate::limits::{MOST_DIAGRAM_BYTES, MOST_UPGRADE_BYTES};
 use crate::{DiagramFault, Path};
 use serde_json::{Map, Value};
 use std::alloc::{AllocError, Global};
@@ -173,16 +173,22 @@ fn check_tree(alloc: Global, tree: &Value) -> Result<(), DiagramFault>
 // The text of a tree of version 1.
 fn upgrade_first(alloc: Global, tree: &Value) -> Result<Vec<u8>, DiagramFault>
     ensures answer { IsAnswer DiagramFault.Memory (spec.upgrade_first (view tree.now)) (seen_as (λ text. text.items) result) }
+    ensures few { IfOk result (λ text. length text.items ≤ MOST_DIAGRAM_BYTES) }
     ensures utf8 { IfOk result (λ text. IsUtf8 text.items) }
     ensures reads_back { IfOk result (λ text. read text.items ≡ Some (spec.upgraded (view tree.now))) }
 {
     check_tree(alloc, tree)?;
-    Ok(upgraded_text(alloc, tree)?)
+    let text = upgraded_text(alloc, tree)?;
+    if text.len() as u64 > MOST_DIAGRAM_BYTES {
+        return Err(DiagramFault::TooLong);
+    }
+    Ok(text)
 }
 
 // The text of a tree.
 fn upgrade_tree(alloc: Global, tree: &Value) -> Result<Vec<u8>, DiagramFault>
     ensures answer { IsAnswer DiagramFault.Memory (spec.upgrade_in (view tree.now)) (seen_as (λ text. text.items) result) }
+    ensures few { IfOk result (λ text. length text.items ≤ MOST_DIAGRAM_BYTES) }
     ensures utf8 { IfOk result (λ text. IsUtf8 text.items) }
     ensures reads_back { IfOk result (λ text. read text.items ≡ Some (spec.upgraded (view tree.now))) }
 {
@@ -200,9 +206,11 @@ fn upgrade_tree(alloc: Global, tree: &Value) -> Result<Vec<u8>, DiagramFault>
 /// that the layout names, with no constants, and a line feed.
 ///
 /// The refusals are those of [`read_diagram`](crate::read_diagram), but that more than 1,048,576 bytes are
-/// `TooLong`, and any version but 1 is `Version`.
+/// `TooLong`, and any version but 1 is `Version`. An answer can be read again: a text longer than a diagram
+/// may be would be `TooLong` too, though compact text grows by the members of version 2 alone.
 pub fn upgrade(alloc: Global, bytes: &Vec<u8>) -> Result<Vec<u8>, DiagramFault>
     ensures answer { IsAnswer DiagramFault.Memory (spec.upgrade_of bytes.now.items) (seen_as (λ text. text.items) result) }
+    // Both texts describe one diagram, and reading what was written gives it.
     ensures same { IfOk result (λ text. spec.IsUpgrade bytes.now.items text.items) }
 {
     if bytes.len() as u64 > MOST_UPGRADE_BYTES {

@@ -17,7 +17,8 @@ pub returns-in-Ok-clause-same : goal.returns-in-Ok-clause-same
 returns-in-Ok-clause-same c =
     let short : length c.args.bytes.now.items ≤ MOST_UPGRADE_BYTES = omega arith in
     same_clause (λ text. text.items) c.args.bytes.now.items c.deref.result.now (view c.in-Ok.tree) Memory c.upgrade_tree.result c.deref.ensures.value short
-    c.in-Ok.ensures.ok.0 c.in-Ok.ensures.ok.1 c.upgrade_tree.ensures.answer c.upgrade_tree.ensures.utf8 c.upgrade_tree.ensures.reads_back
+    c.in-Ok.ensures.ok.0 c.in-Ok.ensures.ok.1 c.upgrade_tree.ensures.answer c.upgrade_tree.ensures.few c.upgrade_tree.ensures.utf8
+    c.upgrade_tree.ensures.reads_back
 
 pub returns-else-is_memory-clause-answer : goal.returns-else-is_memory-clause-answer
 returns-else-is_memory-clause-answer c =
