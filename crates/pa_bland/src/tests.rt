@@ -3,7 +3,8 @@ ghost use Rattle.pa_tableau.specs.Work.{HasRoom};
 
 use crate::small20::Small20;
 use crate::{
-    Answer, Problem, SolveError, Solved, Spot, most_bases, solve, solve_answer, solve_first,
+    Answer, LentProblem, Problem, SolveError, Solved, Spot, most_bases, solve, solve_answer,
+    solve_first,
 };
 use pa_frac::{Fraction, Wide126};
 use pa_row::{Row, Weights};
@@ -137,8 +138,8 @@ fn assert_solved(
     assert_eq!(rt; text.as_str(), wanted, "{case}");
 }
 
-// Rows, the target, the number of pivots and the answer. Both phases, drive-outs, ties, degenerate bases and
-// artificial columns that stay.
+// Rows, the target, the number of pivots and the answer. Both phases, drive-outs of one column and of two, ties,
+// degenerate bases and artificial columns that stay.
 const PROBLEMS: &str = "\
 1 1 | 1 | 1 | least 1 0:1; 1/1; 1/1
  | 1 | 0 | none 1
@@ -159,7 +160,9 @@ const PROBLEMS: &str = "\
 0 -1 3 -3, 3 -3 2 2, -3 0 0 -3, 2 -1 0 0 | 3 0 1 | 4 | none 3 6 2
 3 -2 0 -5, 3 0 -4 5, 0 0 0 0, -2 -1 -5 -1 | 0 0 -3 | 3 | none -4 23 -3
 -1 0 0 2, 1 2 0 -2, 0 1 2 -2 | 0 0 2 | 3 | none 4 -2 1
-1 0 0 0, 0 1 0 0, 0 0 1 0, 1 2 0 -3, -8 -12 0 20, -2 -1 2 -1, 9 3 0 6 | 0 0 1 | 9 | least 4 0:3 3:1 5:2; 0/1 -3/2 -5/4; -5/4";
+1 0 0 0, 0 1 0 0, 0 0 1 0, 1 2 0 -3, -8 -12 0 20, -2 -1 2 -1, 9 3 0 6 | 0 0 1 | 9 | least 4 0:3 3:1 5:2; 0/1 -3/2 -5/4; -5/4
+-2 -1 2 -1, -2 1 -2 -1, -2 0 0 -2 | 0 0 0 | 3 | least 1; 1/1 1/1 0/1; 0/1
+1 -2 -1 -2, 1 -2 0 -1 | 0 0 0 | 2 | least 1; -1/1 0/1 1/1; 0/1";
 
 // The parts of a line of the table.
 fn parts_of<'a>(line: &'a str) -> [&'a str; 4] {
@@ -187,6 +190,57 @@ fn problems_have_the_answers_of_another_program(rt: HostRuntime) {
     }
 }
 
+// Problems with the first cell whose number passes 20 bits: its pivot, its line and its column. In the load, with
+// the bounds before the sums of cost row 1; in the ratios, which stand behind the value column; and in the pivot
+// line, other lines and cost rows of pivots in both phases and of drive-outs.
+const PASSING: &str = "\
+1048576 0 | 0 | 9 | wide 0 0 0
+1 0 | 1048576 | 9 | wide 0 0 2
+667946 627294 1048576 | 0 1 | 9 | wide 0 3 0
+667946 627294 1 | 0 1 | 9 | wide 0 2 0
+1 0 1 | 615857 1007280 | 9 | wide 0 2 3
+2 1 0 | 1 535918 | 9 | wide 1 1 4
+2 997 1, 1 0 1, 1 217 0 | 427 1 | 9 | wide 3 1 6
+23721 1 1, 0 5613 1 | 0 0 | 9 | wide 2 1 2
+-1 490934 1 | 3 1 | 9 | wide 1 0 3
+3 1 1, 818865 0 3 | 0 0 | 9 | wide 1 2 1
+524 1 755, 1 3 0 | 1 1 | 9 | wide 2 3 2
+0 -3 956584, -627197 1 3 | 0 0 | 9 | wide 2 1 2
+1 -3 0, -926067 1 1 | 0 0 | 9 | wide 1 1 1
+-2 3, -760449 1 | 0 | 9 | wide 1 2 1
+0 1 1, 363564 273387 -3, 0 431547 1 | 0 1 | 9 | wide 3 1 3
+1 297, 267 1 | 420 | 9 | wide 2 2 3
+2 1 0 | 1 535918 | 0 | limit";
+
+fn assert_passing(rt: &impl Abort, alloc: Global, line: &str) {
+    let [rows, target, most, wanted] = parts_of(line);
+    let problem = problem_of(rt, alloc, rows, target);
+    let most = u32::from(most.parse::<u8>().expect(rt, "a number"));
+    let solved = solve_first::<Small20, Small20>(alloc, &problem, most);
+    assert_solved(rt, alloc, solved, wanted, line);
+}
+
+#[test]
+fn the_first_number_that_passes_is_told_at_its_cell(rt: HostRuntime) {
+    for line in PASSING.lines() {
+        assert_passing(&rt, rt.alloc(), line);
+    }
+}
+
+// The three weights have denominators of 62 bits without a common divisor.
+#[test]
+fn weights_that_pass_are_told_at_the_reading(rt: HostRuntime) {
+    let rows = "4611686018427387903 0 0 0, 0 4611686018427387901 0 0, 0 0 4611686018427387899 0";
+    let problem = problem_of(&rt, rt.alloc(), rows, "1 1 1");
+    assert_solved(
+        &rt,
+        rt.alloc(),
+        solve(rt.alloc(), &problem, 9),
+        "wide read",
+        rows,
+    );
+}
+
 // The answer to the problem of a line comes over a work that served others before.
 fn assert_served(rt: &impl Abort, alloc: Global, work: &mut Work<Wide126>, line: &str)
     requires { HasRoom 3 7 work.old }
@@ -206,6 +260,26 @@ fn a_work_serves_many_problems(rt: HostRuntime) {
     for line in PROBLEMS.lines() {
         assert_served(&rt, rt.alloc(), &mut work, line);
     }
+}
+
+// The answer to a problem without the row at a place.
+#[tactic(auto, using(crate::proofs::Omitted::no_more, crate::proofs::Omitted::posed_without))]
+fn assert_without(rt: &impl Abort, alloc: Global, place: usize, wanted: &str) {
+    let problem = problem_of(rt, alloc, "3 10, 2 5, 1 3", "6");
+    assert!(rt; problem.target.len() <= 1 && problem.rows.len() <= 3);
+    let mut work = Work::<Wide126>::new(alloc, 1, 3).expect(rt, "memory");
+    let lent = LentProblem::new(&problem.rows, place, &problem.target);
+    let answer = solve_answer(alloc, &mut work, &lent, 9).expect(rt, "an answer");
+    let text = answer_text(alloc, &answer).expect(rt, "memory");
+    assert_eq!(rt; text.as_str(), wanted, "{place}");
+}
+
+#[test]
+fn a_row_is_left_out(rt: HostRuntime) {
+    assert_without(&rt, rt.alloc(), 0, "least 1 0:3; 5/2; 15/1");
+    assert_without(&rt, rt.alloc(), 1, "least 1 1:6; 3/1; 18/1");
+    assert_without(&rt, rt.alloc(), 2, "least 1 1:3; 5/2; 15/1");
+    assert_without(&rt, rt.alloc(), 3, "least 1 1:3; 5/2; 15/1");
 }
 
 #[test]
