@@ -1,14 +1,15 @@
 // Texts read by the grammar, on worked values. They stand here, so that the grammar is proved once and not again with them.
-ghost use Rattle.std.specs.Prelude.{All, IfOk};
+ghost use Rattle.std.specs.Prelude.{All};
 ghost use Rattle.pa_grammar.specs.Texts.{IsConstant};
 
 use pa_grammar::{
     Constants, Linear, MOST_TEXT, TermFault, read_plain, read_term, read_term_with, read_value,
 };
-use pa_names::{Name, NameFault, Names};
+use pa_names::{Name, Names};
 use pa_row::Row;
 use std::alloc::{AllocError, Global};
-use std::test::Fail;
+use std::fmt::Write;
+use std::process::Abort;
 
 // Texts over `x` and `y`, each with its rows, as columns and a bound, or its fault.
 const TERMS: &str = "\
@@ -182,47 +183,64 @@ x => syntax at byte 0
 ";
 
 // The list of the names in a text.
-fn names_of(alloc: Global, text: &str) -> Result<Names, NameFault> {
+fn names_of(rt: &impl Abort, alloc: Global, text: &str) -> Names {
     let mut names = Names::new(alloc);
     for word in text.split_whitespace() {
-        names.add(Name::read(alloc, word.as_bytes())?)?;
+        let name = Name::read(alloc, word.as_bytes()).expect(rt, "a name");
+        names.add(name).expect(rt, "a new name");
     }
-    Ok(names)
+    names
 }
 
-// Rows as `1 -2 <= 3, 0 1 <= 0`, or the refusal.
-fn rows_shown(alloc: Global, answer: Result<Vec<Row>, TermFault>) -> Result<String, AllocError> {
-    let rows = match answer {
-        Ok(rows) => rows,
-        Err(fault) => return format!(in alloc; "{fault}"),
-    };
+// Puts a row behind a text, as `1 -2 <= 3`.
+fn push_numbers(text: &mut String, row: &Row) -> Result<(), AllocError> {
+    for number in &row.c {
+        write!(text, "{number} ")?;
+    }
+    let bound = row.b;
+    write!(text, "<= {bound}")?;
+    Ok(())
+}
+
+// Rows as `1 -2 <= 3, 0 1 <= 0`.
+fn rows_text(alloc: Global, rows: &[Row]) -> Result<String, AllocError> {
     let mut text = String::new(alloc);
-    for row in &rows {
+    for row in rows {
         if !text.is_empty() {
             text.push_str(", ")?;
         }
-        for number in &row.c {
-            text.push_str(format!(in alloc; "{number} ")?.as_str())?;
-        }
-        text.push_str(format!(in alloc; "<= {}", row.b)?.as_str())?;
+        push_numbers(&mut text, row)?;
     }
     Ok(text)
 }
 
-// A sum as `2 x, -1 y, 5 over 3`, or the refusal.
-fn linear_shown(alloc: Global, answer: Result<Linear, TermFault>) -> Result<String, AllocError> {
-    let linear = match answer {
-        Ok(linear) => linear,
-        Err(fault) => return format!(in alloc; "{fault}"),
-    };
+// The rows or the refusal.
+fn rows_shown(alloc: Global, answer: Result<Vec<Row>, TermFault>) -> Result<String, AllocError> {
+    match answer {
+        Ok(rows) => rows_text(alloc, &rows),
+        Err(fault) => format!(in alloc; "{fault}"),
+    }
+}
+
+// A sum as `2 x, -1 y, 5 over 3`.
+fn linear_text(alloc: Global, linear: &Linear) -> Result<String, AllocError> {
     let mut text = String::new(alloc);
     for place in 0..linear.names.len() {
         let name = str::from_utf8(linear.names.at(place).bytes()).unwrap_or("?");
         let number = linear.c.get(place as usize).copied().unwrap_or(0);
-        text.push_str(format!(in alloc; "{number} {name}, ")?.as_str())?;
+        write!(text, "{number} {name}, ")?;
     }
-    text.push_str(format!(in alloc; "{} over {}", linear.b, linear.q)?.as_str())?;
+    let (bound, den) = (linear.b, linear.q);
+    write!(text, "{bound} over {den}")?;
     Ok(text)
+}
+
+// The sum or the refusal.
+fn linear_shown(alloc: Global, answer: Result<Linear, TermFault>) -> Result<String, AllocError> {
+    match answer {
+        Ok(linear) => linear_text(alloc, &linear),
+        Err(fault) => format!(in alloc; "{fault}"),
+    }
 }
 
 fn value_shown(
@@ -235,62 +253,71 @@ fn value_shown(
     }
 }
 
+fn assert_term(rt: &impl Abort, alloc: Global, names: &Names, line: &str) {
+    let (text, wanted) = line.split_once(" => ").unwrap_or((line, ""));
+    assert!(rt; text.len() <= MOST_TEXT);
+    let answer = read_term(alloc, text.as_bytes(), names);
+    let shown = rows_shown(alloc, answer).expect(rt, "memory");
+    assert_eq!(rt; shown.as_str(), wanted, "{text}");
+}
+
 #[test]
-fn a_term_has_its_rows_or_its_first_fault(rt: HostRuntime) -> Result<(), Fail> {
-    let names = names_of(rt.alloc(), "x y")?;
+fn a_term_has_its_rows_or_its_first_fault(rt: HostRuntime) {
+    let names = names_of(&rt, rt.alloc(), "x y");
     for line in TERMS.lines() {
-        let (text, wanted) = line.split_once(" => ").unwrap_or((line, ""));
-        assert!(rt; text.len() <= MOST_TEXT);
-        let answer = read_term(rt.alloc(), text.as_bytes(), &names);
-        let shown = rows_shown(rt.alloc(), answer)?;
-        assert_eq!(rt; shown.as_str(), wanted, "{text}");
+        assert_term(&rt, rt.alloc(), &names, line);
     }
-    Ok(())
 }
 
 // The constants `cap = 3/2` and `low = -1/3`.
-fn constants_of(alloc: Global) -> Result<Constants, NameFault>
-    ensures { IfOk result (λ c. All IsConstant c.values.items) }
+fn constants_of(rt: &impl Abort, alloc: Global) -> Constants
+    ensures { All IsConstant result.values.items }
 {
-    let names = names_of(alloc, "cap low")?;
-    match Vec::from_array(alloc, [(3, 2), (-1, 3)]) {
-        Ok(values) => Ok(Constants { names, values }),
-        Err(_) => Err(NameFault::Memory),
-    }
+    let names = names_of(rt, alloc, "cap low");
+    let values = Vec::from_array(alloc, [(3, 2), (-1, 3)]).expect(rt, "memory");
+    Constants { names, values }
+}
+
+fn assert_with_constants(rt: &impl Abort, alloc: Global, names: &Names, line: &str) {
+    let (text, wanted) = line.split_once(" => ").unwrap_or((line, ""));
+    assert!(rt; text.len() <= MOST_TEXT);
+    let answer = read_term_with(alloc, text.as_bytes(), names, &constants_of(rt, alloc));
+    let shown = rows_shown(alloc, answer).expect(rt, "memory");
+    assert_eq!(rt; shown.as_str(), wanted, "{text}");
 }
 
 #[test]
-fn a_constant_is_a_factor_and_no_variable(rt: HostRuntime) -> Result<(), Fail> {
-    let names = names_of(rt.alloc(), "x")?;
-    let constants = constants_of(rt.alloc())?;
+fn a_constant_is_a_factor_and_no_variable(rt: HostRuntime) {
+    let names = names_of(&rt, rt.alloc(), "x");
     for line in WITH_CONSTANTS.lines() {
-        let (text, wanted) = line.split_once(" => ").unwrap_or((line, ""));
-        assert!(rt; text.len() <= MOST_TEXT);
-        let answer = read_term_with(rt.alloc(), text.as_bytes(), &names, &constants);
-        let shown = rows_shown(rt.alloc(), answer)?;
-        assert_eq!(rt; shown.as_str(), wanted, "{text}");
+        assert_with_constants(&rt, rt.alloc(), &names, line);
     }
-    Ok(())
+}
+
+fn assert_plain(rt: &impl Abort, alloc: Global, line: &str) {
+    let (text, wanted) = line.split_once(" => ").unwrap_or((line, ""));
+    assert!(rt; text.len() <= MOST_TEXT);
+    let shown = linear_shown(alloc, read_plain(alloc, text.as_bytes())).expect(rt, "memory");
+    assert_eq!(rt; shown.as_str(), wanted, "{text}");
 }
 
 #[test]
-fn a_plain_has_its_sum_or_its_first_fault(rt: HostRuntime) -> Result<(), Fail> {
+fn a_plain_has_its_sum_or_its_first_fault(rt: HostRuntime) {
     for line in PLAINS.lines() {
-        let (text, wanted) = line.split_once(" => ").unwrap_or((line, ""));
-        assert!(rt; text.len() <= MOST_TEXT);
-        let shown = linear_shown(rt.alloc(), read_plain(rt.alloc(), text.as_bytes()))?;
-        assert_eq!(rt; shown.as_str(), wanted, "{text}");
+        assert_plain(&rt, rt.alloc(), line);
     }
-    Ok(())
+}
+
+fn assert_value(rt: &impl Abort, alloc: Global, line: &str) {
+    let (text, wanted) = line.split_once(" => ").unwrap_or((line, ""));
+    assert!(rt; text.len() <= MOST_TEXT);
+    let shown = value_shown(alloc, read_value(alloc, text.as_bytes())).expect(rt, "memory");
+    assert_eq!(rt; shown.as_str(), wanted, "{text}");
 }
 
 #[test]
-fn a_value_has_its_fraction_or_its_first_fault(rt: HostRuntime) -> Result<(), Fail> {
+fn a_value_has_its_fraction_or_its_first_fault(rt: HostRuntime) {
     for line in VALUES.lines() {
-        let (text, wanted) = line.split_once(" => ").unwrap_or((line, ""));
-        assert!(rt; text.len() <= MOST_TEXT);
-        let shown = value_shown(rt.alloc(), read_value(rt.alloc(), text.as_bytes()))?;
-        assert_eq!(rt; shown.as_str(), wanted, "{text}");
+        assert_value(&rt, rt.alloc(), line);
     }
-    Ok(())
 }
