@@ -1,5 +1,5 @@
 // Texts read by the grammar, on worked values. They stand here, so that the grammar is proved once and not again with them.
-ghost use Rattle.std.specs.Prelude.{All};
+ghost use Rattle.std.specs.Prelude.{All, IfOk};
 ghost use Rattle.pa_grammar.specs.Texts.{IsConstant};
 
 use pa_grammar::{
@@ -270,18 +270,21 @@ fn a_term_has_its_rows_or_its_first_fault(rt: HostRuntime) {
 }
 
 // The constants `cap = 3/2` and `low = -1/3`.
-fn constants_of(rt: &impl Abort, alloc: Global) -> Constants
-    ensures { All IsConstant result.values.items }
+fn constants_of(rt: &impl Abort, alloc: Global) -> Result<Constants, AllocError>
+    ensures { IfOk result (λ c. All IsConstant c.values.items) }
 {
     let names = names_of(rt, alloc, "cap low");
-    let values = Vec::from_array(alloc, [(3, 2), (-1, 3)]).expect(rt, "memory");
-    Constants { names, values }
+    match Vec::from_array(alloc, [(3, 2), (-1, 3)]) {
+        Ok(values) => Ok(Constants { names, values }),
+        Err(_) => Err(AllocError),
+    }
 }
 
 fn assert_with_constants(rt: &impl Abort, alloc: Global, names: &Names, line: &str) {
     let (text, wanted) = line.split_once(" => ").unwrap_or((line, ""));
     assert!(rt; text.len() <= MOST_TEXT);
-    let answer = read_term_with(alloc, text.as_bytes(), names, &constants_of(rt, alloc));
+    let constants = constants_of(rt, alloc).expect(rt, "memory");
+    let answer = read_term_with(alloc, text.as_bytes(), names, &constants);
     let shown = rows_shown(alloc, answer).expect(rt, "memory");
     assert_eq!(rt; shown.as_str(), wanted, "{text}");
 }
