@@ -132,7 +132,7 @@ module _ (table : Table) (formed : AreFormed table) where
       let answer = test_answer_is_true c names x p.positive (at_ports c names x) t (found_formed of c h) known refl words in
       (test_line_is_true table of names x c (TestedAs t) h answer, tt)
   words_good of names x p c h known (Err (testing.Wide place)) is =
-      (test_line_is_true table of names x c (TooWide place) h (wide_test_is_true c names x place known), tt)
+      (test_line_is_true table of names x c (TooWide place) h (wide_test_is_true c names x (at_ports c names x) place known is), tt)
   words_good of names x p c h known (Err testing.Memory) is =
       let at = at_ports c names x in
       absurd (never_memory_words (position (passes_at at) (c.assumptions ++ c.guarantees)) (words_of c.assumptions c.guarantees at) is)

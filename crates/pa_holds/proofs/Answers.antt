@@ -45,8 +45,8 @@ gives_each c p d at = record {
 -- Where no refusal by name is due, an answer that holds is true.
 holds_is_true : (v : Version) (most : Limits) (question : Question) (answer : Answer) → IsWellAsked question → due question ≡ None
     → Holds v most question answer → IsTrue question answer
-holds_is_true v most question (PivotLimit task part) w n h = tt
-holds_is_true v most question (TooWide place) w n h = tt
+holds_is_true v most question (PivotLimit task part) w n h = (most, h)
+holds_is_true v most question (TooWide place) w n h = (most, h)
 holds_is_true v most (Merging c other) (Merged m) w n h = subst (IsMergeResult c other) (sym h)
     (record { computed = merge_computed c other n; meaning = merged_is_merge c other w.0 w.1 (merge_clear c other n) })
 holds_is_true v most (Testing c names x) (TestedAs t) w n h = (h.0, tested_is_true c (behaviour_of names x h.0) t h.1)
@@ -66,8 +66,8 @@ holds_is_true v most (Bounding c goal least) (Value num den ws p) w n h = value_
 holds_is_true v most (Bounding c goal least) (Unbounded p d) w n h = unbounded_is_true c goal w.0 w.1 (bound_among c goal.names n) least p d h.0
 holds_is_true v most (Bounding c goal least) (Nothing ws) w n h = nothing_is_true c goal w.0 w.1 (bound_among c goal.names n) ws h
 holds_is_true v most (Hiding c names) (Hidden a) w n h = hidden_is_true v most.rows c names a w h
-holds_is_true v most (Hiding c names) (RowLimit step count) w n h = tt
-holds_is_true v most (Composing parts keep) (RowLimit step count) w n h = tt
+holds_is_true v most (Hiding c names) (RowLimit step count) w n h = (most.rows, h)
+holds_is_true v most (Composing parts keep) (RowLimit step count) w n h = (most.rows, h)
 holds_is_true v most (Composing parts keep) (Composed a) w n h = composed_is_true v most.rows parts keep a w (compose_distinct parts keep n) h
 holds_is_true v most (Composing parts keep) (NoMultipliers s) w n h = h.0
 holds_is_true v most (Composing parts keep) (Circle ss) w n h = h.0

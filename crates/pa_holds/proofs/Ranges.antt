@@ -8,20 +8,21 @@ use Rattle.pa_row.specs.declared.place.Group.TheVariants.{Thin, Step}
 use Rattle.pa_row.specs.declared.place.Task.{Task}
 use Rattle.pa_row.specs.declared.place.Task.TheVariants.{Sum, Cover, Goal, Shift, Whole, Clean, Filter, Pairs}
 use Rattle.pa_row.specs.declared.place.Spot.{Spot}
-use Rattle.pa_row.specs.declared.place.Spot.TheVariants.{Load, Pivot}
+use Rattle.pa_row.specs.declared.place.Spot.TheVariants.{Load, Pivot, Check}
 use Rattle.pa_row.specs.declared.place.Sub.{Sub}
 use Rattle.pa_row.specs.declared.place.Sub.TheVariants.{Main, Base}
 use Rattle.pa_row.specs.declared.place.Place.{Place}
 use Rattle.pa_meaning.specs.Rows.{Point}
-use Rattle.pa_meaning.specs.Contracts.{Name}
+use Rattle.pa_meaning.specs.Contracts.{Name, Contract}
 use Rattle.pa_script.specs.declared.op.Op.TheVariants.{Merge}
 use Rattle.pa_cert.specs.Lists.{Heading}
 use Rattle.pa_cert.specs.Tables.{Limits}
+use Rattle.pa_cert.specs.declared.answer.Answer.TheVariants.{PivotLimit, TooWide}
 use Rattle.pa_cert.specs.declared.refusal.NameRefusal.TheVariants.{UnknownPort, PortClash, NotOutput, PortsDiffer, Variables, Rows}
 use Rattle.pa_holds.specs.Questions.{Question, Merging, Testing, Refining, Hiding, Composing, Dividing}
 use Rattle.pa_holds.specs.Limits.{LimitFits, TaskFits, PivotsFit, PlaceFits}
 use Rattle.pa_holds.specs.Refusals.{too_many_rows, too_many_names, due_merge, due_test, due_refine, due_bound, due_hide, due_compose, due_quotient}
-use Rattle.pa_holds.specs.Answers.{IsAlong, GivesEach}
+use Rattle.pa_holds.specs.Answers.{IsAlong, GivesEach, IsTrue}
 use Rattle.pa_holds.specs.Tables.{unknown}
 use Rattle.pa_holds.proofs.Examples.{row, contract, a, b, i, o, p, u, w, y, chain, two_of}
 use Rattle.pa_holds.proofs.PartExamples.{x, z, ten, double, square}
@@ -75,6 +76,19 @@ no_fifth_pivot line column h = let within = h.pivot in absurd (omega (arith, wit
 
 no_costs : (part : Sub) → ¬ PlaceFits limits sums (place (Cover 0) part Load)
 no_costs part h = h.spot
+
+-- ---- questions that have no such place
+-- of a merge no number is too wide, and it has no pivots
+no_wide_merge : (c other : Contract) (at : Place) → ¬ IsTrue (Merging c other) (TooWide at)
+no_wide_merge c other at h = h.1.task
+
+no_pivots_of_a_merge : (c other : Contract) (task : Task) (part : Sub) → ¬ IsTrue (Merging c other) (PivotLimit task part)
+no_pivots_of_a_merge c other task part h = h.1.task_fits
+
+-- the test of a contract of one row has no second row
+no_wide_second_row : (names : List Name) (at : Point)
+    → ¬ IsTrue (Testing (contract [] (x ∷ []) [] (row (pos 1 ∷ []) (pos 1) ∷ [])) names at) (TooWide (place (Sum 1) Main Check))
+no_wide_second_row names at h = let less = h.1.task in absurd (omega (arith, less))
 
 -- ---- tasks of a composition and of a quotient
 -- the second part of the chain has two assumptions

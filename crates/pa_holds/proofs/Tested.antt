@@ -1,7 +1,9 @@
 -- Tests: what holds as printed is true, and so is what a test of the contract at the point's own ports tells.
 use Rattle.std.proofs.Common.{◌≡◌, refl, sym, ap, ◌∙◌, subst, ℕ, Bool, not, cond, List, [], ◌∷◌, ◌++◌, length, Decides, All, Option, Some, None}
 use Rattle.std.proofs.Common.{option_map, find, arith}
+use Rattle.std.proofs.Common.{◌<◌, Ok, Err, length-append}
 use Rattle.std.proofs.lemmas.List.Elements.{All-head, All-tail}
+use Rattle.std.proofs.lemmas.List.Quantifiers.{position-Some}
 use Rattle.std.specs.Prelude.{position}
 use Rattle.std.specs.Option.{is_none, is_some}
 use Rattle.std.specs.List.{list_all, AllZip}
@@ -12,7 +14,9 @@ use Rattle.pa_meaning.specs.Rows.{Row, Point, Meets}
 use Rattle.pa_meaning.specs.Contracts.{Name, Contract, ports, Behaviour, behaviour_of, point_over}
 use Rattle.pa_meaning.specs.Composition.{is_among}
 use Rattle.pa_contract.specs.WellFormed.{IsWellFormed}
-use Rattle.pa_contract.specs.Testing.{Tested, IsTested}
+use Rattle.pa_contract.specs.Merge.{row_count}
+use Rattle.pa_contract.specs.Testing.{Tested, IsTested, tested, words_of, passes_at, sum_place}
+use Rattle.pa_contract.specs.declared.fault.TestFault.TheVariants.{Wide}
 use Rattle.pa_contract.proofs.Words.{all_words, implication}
 use Rattle.pa_contract.proofs.Fronts.{meets_front, all_short}
 use Rattle.pa_contract.proofs.Steps.{is_some-position}
@@ -20,6 +24,8 @@ use Rattle.pa_row.specs.declared.place.Place.{Place}
 use Rattle.pa_cert.specs.declared.refusal.NameRefusal.TheVariants.{UnknownPort}
 use Rattle.pa_cert.specs.declared.answer.Answer.TheVariants.{TestedAs, Refused, TooWide}
 use Rattle.pa_holds.specs.Refusals.{first_missing}
+use Rattle.pa_math.specs.Answers.{given}
+use Rattle.pa_holds.specs.Limits.{PlaceFits}
 use Rattle.pa_holds.specs.Questions.{Testing}
 use Rattle.pa_holds.specs.Answers.{due, IsTestOf, HoldsAsTested, IsTrue, IsTrueAnswer}
 
@@ -73,8 +79,24 @@ module _ (c : Contract) (names : List Name) (x : Point) where
       → at ≡ point_over (ports c) (behaviour_of names x up) → IsTested c at t → IsTrueAnswer (Testing c names x) (TestedAs t)
   test_answer_is_true up at t formed known is h = (ports_known known, test_is_true up at t formed is h)
 
-  pub wide_test_is_true : (place : Place) → first_missing (ports c) names ≡ None → IsTrueAnswer (Testing c names x) (TooWide place)
-  wide_test_is_true place known = (ports_known known, tt)
+  -- a row whose sums pass is one of the contract's
+  wide_row_is_true : (at : Point) (place : Place) (found : Option ℕ) → position (passes_at at) (c.assumptions ++ c.guarantees) ≡ found
+      → given (Ok (words_of c.assumptions c.guarantees at)) found (λ row. Err (Wide (sum_place row))) ≡ Err (Wide place)
+      → IsTrue (Testing c names x) (TooWide place)
+  wide_row_is_true at place None first is = absurd (cc)
+  wide_row_is_true at place (Some row) first is =
+      let here : sum_place row ≡ place = cc in
+      let within : row < row_count c = subst (λ n. row < n) (length-append c.assumptions c.guarantees)
+      (position-Some (passes_at at) (c.assumptions ++ c.guarantees) row (record { c = []; b = pos 0 }) first).0 in (
+        record { rows = 0; pivots = 0 },
+        subst (PlaceFits (record { rows = 0; pivots = 0 }) (Testing c names x)) here
+            (record { task = within; problem = tt; spot = tt; pivot = tt }),
+      )
+
+  pub wide_test_is_true : (at : Point) (place : Place) → first_missing (ports c) names ≡ None → tested c at ≡ Err (Wide place)
+      → IsTrueAnswer (Testing c names x) (TooWide place)
+  wide_test_is_true at place known is =
+      (ports_known known, wide_row_is_true at place (position (passes_at at) (c.assumptions ++ c.guarantees)) refl is)
 
   -- the first name that is no port refuses the test
   pub unknown_port_is_true : (name : Name) → first_missing (ports c) names ≡ Some name → IsTrueAnswer (Testing c names x) (Refused (UnknownPort name))

@@ -1,5 +1,5 @@
 -- The answers to questions about contracts: which are true, and which hold as they are printed.
-use Rattle.std.specs.Prelude.{◌≡◌, ◌≢◌, List, length, map, filter, Option, Some, None, Ok, pos, ◌<ℤ◌, Decides, All}
+use Rattle.std.specs.Prelude.{◌≡◌, ◌≢◌, ℕ, List, length, map, filter, Option, Some, None, Ok, pos, ◌<ℤ◌, Decides, All}
 use Rattle.std.specs.List.{AllZip, IsDistinct}
 use Rattle.std.specs.Str.{bytes_eq}
 use Rattle.pa_meaning.specs.Rows.{Meets}
@@ -76,11 +76,11 @@ abbrev pub behaviour_at : (c : Contract) (p : Located) → GivesEach c p → Beh
 behaviour_at c p g = behaviour_of p.names p.at g.positive
 
 -- ---- true
--- Of a limit that was met, and of a number that is too wide, nothing is said. A port that the point of a test does not name has
--- 0 there, as `behaviour_of` says.
+-- Of a limit that was met, and of a number that is too wide, only this is said: the operation has such a place, with numbers that
+-- are in its ranges under some limits. A port that the point of a test does not name has 0 there, as `behaviour_of` says.
 abbrev pub IsTrue : Question → Answer → Type 0
-IsTrue question (PivotLimit task part) = Unit {0}
-IsTrue question (TooWide place) = Unit {0}
+IsTrue question (PivotLimit task part) = (most : Limits) × PivotsFit most question task part
+IsTrue question (TooWide place) = (most : Limits) × PlaceFits most question place
 IsTrue (Merging c other) (Merged m) = IsMergeResult c other m
 IsTrue (Testing c names x) (TestedAs t) = (up : pos 0 <ℤ x.q) × IsTestOf c (behaviour_of names x up) t
 IsTrue (Refining c other) (Yes assumptions guarantees) = Refines c other
@@ -90,9 +90,9 @@ IsTrue (Bounding c goal least) (Value num den w p) = IsBestValue c goal least nu
 IsTrue (Bounding c goal least) (Unbounded p h) = IsUnbounded c goal least
 IsTrue (Bounding c goal least) (Nothing w) = HasNoBehaviour c
 IsTrue (Hiding c names) (Hidden a) = IsHidden c names a.contract
-IsTrue (Hiding c names) (RowLimit step count) = Unit {0}
+IsTrue (Hiding c names) (RowLimit step count) = (most : ℕ) × LimitFits most (filter (is_among names) c.outputs) step count
 IsTrue (Composing parts keep) (Composed a) = IsComposite parts keep a.contract
-IsTrue (Composing parts keep) (RowLimit step count) = Unit {0}
+IsTrue (Composing parts keep) (RowLimit step count) = (most : ℕ) × LimitFits most (internal_outputs parts keep) step count
 IsTrue (Composing parts keep) (NoMultipliers s) = IsStuckForGood parts (stuck_over parts s)
 IsTrue (Composing parts keep) (Circle ss) = IsCircle parts (map (stuck_over parts) ss)
 IsTrue (Dividing whole part) (Divided a) = IsQuotient whole part a.contract a.narrow
