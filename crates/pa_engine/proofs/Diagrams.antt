@@ -1,5 +1,5 @@
 -- The table that a diagram gives has well-formed contracts, no two with one name, so all answers to a script are true of it.
-use Rattle.std.proofs.Common.{◌≡◌, ◌++◌, List, [], ◌∷◌, map, refl, subst, All, ◌&&◌, Bool, true, false}
+use Rattle.std.proofs.Common.{◌≡◌, List, [], ◌∷◌, refl, subst, All, ◌&&◌, Bool, true, false}
 use Rattle.std.specs.List.{IsDistinct, list_all}
 use Rattle.std.specs.Str.{bytes_eq}
 use Rattle.std.proofs.lemmas.List.{map-append}

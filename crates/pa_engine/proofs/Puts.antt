@@ -1,5 +1,5 @@
 -- A text that is put in several parts is put as one text: what was taken is a front of it, and at the end the whole.
-use Rattle.std.proofs.Common.{◌≡◌, ℕ, ◌+◌, ◌≤◌, List, [], ◌++◌, take, length, refl, ap, sym, ◌∙◌, append_assoc, subst, arith, Option}
+use Rattle.std.proofs.Common.{◌≡◌, ℕ, ◌+◌, List, [], ◌++◌, take, length, refl, ap, sym, ◌∙◌, append_assoc, subst, arith, Option}
 use Rattle.std.proofs.Common.{Result, Ok, Err}
 use Rattle.std.specs.Prelude.{OnErr}
 use Rattle.std.proofs.Math.Seq.{take-append-add}

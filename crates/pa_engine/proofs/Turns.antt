@@ -1,7 +1,7 @@
 -- The lines of a script one after the other: what is put so far, the table, and whether some answer was a refusal. Then the
 -- report in its three parts.
 use Rattle.std.proofs.Common.{◌≡◌, ◌≤◌, ◌<◌, ◌+◌, ℕ, List, [], ◌∷◌, ◌++◌, length, drop, get_or, refl, ap, sym, ◌∙◌, subst}
-use Rattle.std.proofs.Common.{Bool, true, false, ◌||◌, Option, arith}
+use Rattle.std.proofs.Common.{Bool, true, false, ◌||◌, Option}
 use Rattle.std.specs.Prelude.{flat_map}
 use Rattle.std.proofs.lemmas.List.{drop_more, drop_all, length-map}
 use Rattle.pa_desk.specs.Taken.{with_bytes, TookPrefix}

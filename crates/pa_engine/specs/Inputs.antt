@@ -1,9 +1,11 @@
 -- What stands at the paths, and how a run stops at an input.
-use Rattle.std.specs.Prelude.{◌≡◌, ◌⊎◌, ℕ, List, Option, Some, IfSome, Result, Ok, Err, Bool, true, false}
+use Rattle.std.specs.Prelude.{◌≡◌, ◌⊎◌, ℕ, List, Option, Some, IfSome, Result, Ok, Err, Bool, false}
 use Rattle.std.specs.List.{list_all}
 use Rattle.pa_desk.specs.Files.{Files, content_at, IsMissing}
 use Rattle.pa_json.specs.Diagrams.{Diagram}
 use Rattle.pa_json.specs.Diagram.{diagram_of}
+use Rattle.pa_json.specs.Described.{IsDescribed}
+use Rattle.pa_json.specs.Upgrades.{upgrade_of, IsUpgrade}
 use Rattle.pa_json.specs.declared.fault.DiagramFault.{DiagramFault}
 use Rattle.pa_script.specs.declared.op.ScriptLine.{ScriptLine}
 use Rattle.pa_script.specs.declared.fault.ScriptFault.{ScriptFault}
@@ -25,18 +27,36 @@ pub record ReadsAt {X : Type 0} (read : List ℕ → X) (told : Option Files) (p
   pub stands : StandsAt told path bytes
   pub is : read bytes ≡ x
 
--- the one path has this diagram, and the other a script of these lines
+-- the one path reads as this diagram, and the other as a script of these lines
 pub record AreRead (told : Option Files) (paths : Paths) (diagram : Diagram) (lines : List ScriptLine) : Type 0 where
   pub diagram_at : ReadsAt diagram_of told paths.diagram (Ok diagram)
   pub script_at : ReadsAt script_of told paths.script (Ok lines)
+
+-- what stands at the path describes the diagram
+pub record IsDescribedAt (told : Option Files) (path : List ℕ) (diagram : Diagram) : Type 0 where
+  pub bytes : List ℕ
+  pub stands : StandsAt told path bytes
+  pub describes : IsDescribed bytes diagram
+
+-- the one path has a text that describes this diagram, and the other a script of these lines
+pub record AreGiven (told : Option Files) (paths : Paths) (diagram : Diagram) (lines : List ScriptLine) : Type 0 where
+  pub diagram_at : IsDescribedAt told paths.diagram diagram
+  pub script_at : ReadsAt script_of told paths.script (Ok lines)
+
+-- what stands at the path is upgraded to this text, and both describe one diagram
+pub record IsUpgradedAt (told : Option Files) (path text : List ℕ) : Type 0 where
+  pub bytes : List ℕ
+  pub stands : StandsAt told path bytes
+  pub is : upgrade_of bytes ≡ Ok text
+  pub same : IsUpgrade bytes text
 
 -- whether each line asks for an operation that is built
 abbrev pub all_built : List ScriptLine → Bool
 all_built lines = list_all (λ line. is_built line.op) lines
 
--- the bytes are no diagram, and the status tells its fault
-abbrev pub IsBadDiagram : List ℕ → Status → Type 0
-IsBadDiagram bytes status = (fault : DiagramFault) × (diagram_of bytes ≡ Err fault) × (status ≡ Input (BadDiagram fault))
+-- the diagram's bytes are refused by what reads them, and the status tells the fault
+abbrev pub IsBadDiagram : {X : Type 0} → (List ℕ → Result X DiagramFault) → List ℕ → Status → Type 0
+IsBadDiagram read bytes status = (fault : DiagramFault) × (read bytes ≡ Err fault) × (status ≡ Input (BadDiagram fault))
 
 -- the bytes are no script, and the status tells its fault
 abbrev pub IsBadScript : List ℕ → Status → Type 0
@@ -46,18 +66,18 @@ IsBadScript bytes status = (fault : ScriptFault) × (script_of bytes ≡ Err fau
 abbrev pub IsEarlyScript : List ℕ → Status → Type 0
 IsEarlyScript bytes status = (lines : List ScriptLine) × (script_of bytes ≡ Ok lines) × (all_built lines ≡ false) × (status ≡ Input EarlyScript)
 
--- The run stops at the diagram by this status: what stands there is none, or it could not be fetched. `read` says that the
+-- The run stops at the diagram by this status: what stands there is refused, or it could not be fetched. `rose` says that the
 -- shelf's count of faults rose in this call.
-abbrev pub IsNoDiagram : Option Files → List ℕ → Type 0 → Status → Type 0
-IsNoDiagram told path read status = ((bytes : List ℕ) × StandsAt told path bytes × IsBadDiagram bytes status)
-    ⊎ ((status ≡ ReadFault which.Diagram) × (IsMissing told path ⊎ read))
+abbrev pub IsNoDiagram : {X : Type 0} → (List ℕ → Result X DiagramFault) → Option Files → List ℕ → Type 0 → Status → Type 0
+IsNoDiagram read told path rose status = ((bytes : List ℕ) × StandsAt told path bytes × IsBadDiagram read bytes status)
+    ⊎ ((status ≡ ReadFault which.Diagram) × (IsMissing told path ⊎ rose))
 
 -- the run stops at the script
 abbrev pub IsNoScript : Option Files → List ℕ → Type 0 → Status → Type 0
-IsNoScript told path read status = ((bytes : List ℕ) × StandsAt told path bytes × (IsBadScript bytes status ⊎ IsEarlyScript bytes status))
-    ⊎ ((status ≡ ReadFault which.Script) × (IsMissing told path ⊎ read))
+IsNoScript told path rose status = ((bytes : List ℕ) × StandsAt told path bytes × (IsBadScript bytes status ⊎ IsEarlyScript bytes status))
+    ⊎ ((status ≡ ReadFault which.Script) × (IsMissing told path ⊎ rose))
 
 -- the status by which a run stops at its inputs: at the diagram, or behind a diagram at the script
 abbrev pub IsStopped : Option Files → Paths → Type 0 → Status → Type 0
-IsStopped told paths read status = IsNoDiagram told paths.diagram read status
-    ⊎ ((diagram : Diagram) × ReadsAt diagram_of told paths.diagram (Ok diagram) × IsNoScript told paths.script read status)
+IsStopped told paths rose status = IsNoDiagram diagram_of told paths.diagram rose status
+    ⊎ ((diagram : Diagram) × ReadsAt diagram_of told paths.diagram (Ok diagram) × IsNoScript told paths.script rose status)

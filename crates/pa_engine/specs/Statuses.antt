@@ -79,7 +79,7 @@ abbrev pub line_of : Status → List ℕ
 line_of (Input (BadDiagram fault)) = diagram_line fault
 line_of (Input (BadScript fault)) = script_line fault
 line_of (Input EarlyScript) = codes "input: script early\n"
-line_of Usage = codes "usage: pacti DIAGRAM SCRIPT\n"
+line_of Usage = codes "usage: pacti DIAGRAM SCRIPT | pacti DIAGRAM --upgrade\n"
 line_of (ReadFault Diagram) = codes "read fault: diagram\n"
 line_of (ReadFault Script) = codes "read fault: script\n"
 line_of status = []

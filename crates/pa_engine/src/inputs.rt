@@ -2,13 +2,16 @@
 ghost use Rattle.std.specs.Prelude.{◌≡◌, ◌≤◌, ◌⊎◌, Ok, IfOk, IfErr, true, false};
 ghost use Rattle.pa_desk.specs.Causes.{Rose};
 ghost use Rattle.pa_json.specs.Diagram.{diagram_of};
+ghost use Rattle.pa_json.specs.Upgrades.{upgrade_of, IsUpgrade};
 ghost use Rattle.pa_script.specs.Script.{script_of};
 ghost use Rattle.pa_engine.specs.Inputs as spec;
 
 use crate::{InputFault, Status, Which};
 use pa_answers::is_built;
 use pa_desk::{FetchFault, Shelf};
-use pa_json::{Diagram, DiagramFault, MOST_DIAGRAM_BYTES, read_diagram};
+use pa_json::{
+    Diagram, DiagramFault, MOST_DIAGRAM_BYTES, MOST_UPGRADE_BYTES, read_diagram, upgrade,
+};
 use pa_script::{MOST_SCRIPT, Script, ScriptFault, read_script};
 use std::alloc::Global;
 
@@ -22,7 +25,7 @@ pub(crate) struct Inputs {
 // The diagram of these bytes, or the status by which the run stops.
 fn diagram_in(alloc: Global, bytes: &Vec<u8>) -> Result<Diagram, Status>
     ensures ok { IfOk result (λ diagram. diagram_of bytes.now.items ≡ Ok diagram) }
-    ensures err { IfErr result (λ status. (status ≡ Status.Memory) ⊎ spec.IsBadDiagram bytes.now.items status) }
+    ensures err { IfErr result (λ status. (status ≡ Status.Memory) ⊎ spec.IsBadDiagram diagram_of bytes.now.items status) }
 {
     match read_diagram(alloc, bytes) {
         Ok(diagram) => Ok(diagram),
@@ -35,12 +38,43 @@ fn diagram_in(alloc: Global, bytes: &Vec<u8>) -> Result<Diagram, Status>
 fn diagram_at<H: Shelf>(alloc: Global, path: &str, shelf: &mut H) -> Result<Diagram, Status>
     ensures ok { IfOk result (λ diagram. spec.ReadsAt diagram_of (H.holds shelf.old) path.now (Ok diagram)) }
     ensures err { IfErr result (λ status. (status ≡ Status.Memory)
-        ⊎ spec.IsNoDiagram (H.holds shelf.old) path.now (Rose (H.faults shelf.old) (H.faults shelf.new)) status) }
+        ⊎ spec.IsNoDiagram diagram_of (H.holds shelf.old) path.now (Rose (H.faults shelf.old) (H.faults shelf.new)) status) }
     ensures later { H.faults shelf.old ≤ H.faults shelf.new }
     ensures same { H.holds shelf.new ≡ H.holds shelf.old }
 {
     match shelf.fetch(alloc, path, MOST_DIAGRAM_BYTES) {
         Ok(bytes) => diagram_in(alloc, &bytes),
+        Err(FetchFault::Failed) => Err(Status::ReadFault(Which::Diagram)),
+        Err(FetchFault::Memory) => Err(Status::Memory),
+    }
+}
+
+// What the bytes are upgraded to, or the status by which the run stops.
+fn upgraded_in(alloc: Global, bytes: &Vec<u8>) -> Result<Vec<u8>, Status>
+    ensures ok { IfOk result (λ text. upgrade_of bytes.now.items ≡ Ok text.items) }
+    ensures same { IfOk result (λ text. IsUpgrade bytes.now.items text.items) }
+    ensures err { IfErr result (λ status. (status ≡ Status.Memory) ⊎ spec.IsBadDiagram upgrade_of bytes.now.items status) }
+{
+    match upgrade(alloc, bytes) {
+        Ok(text) => Ok(text),
+        Err(DiagramFault::Memory) => Err(Status::Memory),
+        Err(fault) => Err(Status::Input(InputFault::BadDiagram(fault))),
+    }
+}
+
+/// What the diagram at the path is upgraded to, or the status by which the run stops.
+pub(crate) fn upgraded_at<H: Shelf>(
+    alloc: Global,
+    path: &str,
+    shelf: &mut H,
+) -> Result<Vec<u8>, Status>
+    ensures ok { IfOk result (λ text. spec.IsUpgradedAt (H.holds shelf.old) path.now text.items) }
+    ensures err { IfErr result (λ status. (status ≡ Status.Memory)
+        ⊎ spec.IsNoDiagram upgrade_of (H.holds shelf.old) path.now (Rose (H.faults shelf.old) (H.faults shelf.new)) status) }
+    ensures same { H.holds shelf.new ≡ H.holds shelf.old }
+{
+    match shelf.fetch(alloc, path, MOST_UPGRADE_BYTES) {
+        Ok(bytes) => upgraded_in(alloc, &bytes),
         Err(FetchFault::Failed) => Err(Status::ReadFault(Which::Diagram)),
         Err(FetchFault::Memory) => Err(Status::Memory),
     }

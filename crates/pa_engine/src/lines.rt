@@ -191,7 +191,9 @@ pub(crate) fn push_status_line(text: &mut Vec<u8>, status: &Status) -> Result<()
         Status::Input(InputFault::EarlyScript) => {
             text.extend_from_slice(b"input: script early\n")
         }
-        Status::Usage => text.extend_from_slice(b"usage: pacti DIAGRAM SCRIPT\n"),
+        Status::Usage => {
+            text.extend_from_slice(b"usage: pacti DIAGRAM SCRIPT | pacti DIAGRAM --upgrade\n")
+        }
         Status::ReadFault(Which::Diagram) => text.extend_from_slice(b"read fault: diagram\n"),
         Status::ReadFault(Which::Script) => text.extend_from_slice(b"read fault: script\n"),
         Status::Done | Status::Refused | Status::WriteFault | Status::Memory => Ok(()),

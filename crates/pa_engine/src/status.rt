@@ -28,9 +28,10 @@ pub enum InputFault {
 /// How a run ends.
 #[derive(Drop)]
 pub enum Status {
-    /// Both inputs were read to their end, the report was taken whole, and no answer is a refusal.
+    /// The inputs were read to their end, the report, in which no answer is a refusal, or the upgraded
+    /// diagram was taken whole.
     Done,
-    /// As `Done`, but at least one answer is a refusal.
+    /// As `Done`, but at least one answer of the report is a refusal.
     Refused,
     /// An input is refused; its line was written.
     Input(InputFault),

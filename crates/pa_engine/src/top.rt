@@ -1,22 +1,36 @@
 // The whole program but for its edge.
-ghost use Rattle.std.specs.Prelude.{◌≡◌, ◌⊎◌, map, string_bytes, IfOk, true};
+ghost use Rattle.std.specs.Prelude.{◌≡◌, ◌⊎◌, ℕ, List, map, string_bytes, IfOk, Some, true};
 ghost use Rattle.pa_desk.specs.Causes.{Rose};
+ghost use Rattle.pa_desk.specs.Taken.{with_bytes};
 ghost use Rattle.pa_cert.specs.AnswerText.{report_of};
 ghost use Rattle.pa_holds.specs.Tables.{AreTrue};
 ghost use Rattle.pa_answers.specs.Answers.{AreFormed};
+ghost use Rattle.pa_engine.specs.declared.status.Status.{Status as StatusValue};
+ghost use Rattle.pa_engine.specs.Words.{Paths, paths_of, upgrade_path_of};
 ghost use Rattle.pa_engine.specs.Inputs.{all_built};
 ghost use Rattle.pa_engine.specs.Statuses.{line_of};
 ghost use Rattle.pa_engine.specs.Ends as spec;
 
 use crate::Status;
-use crate::inputs::{Inputs, read_inputs};
+use crate::inputs::{Inputs, read_inputs, upgraded_at};
 use crate::lines::line_of_status;
 use crate::report::put_report;
-use crate::words::paths_of;
+use crate::words::{paths_of, upgrade_path_of};
 use pa_cert::Table;
 use pa_desk::{PutFault, Shelf, Sink, put_all};
 use pa_json::Diagram;
 use std::alloc::{AllocError, Global};
+
+// Puts a text, and ends with this status where it was taken whole.
+fn put_text<O: Sink>(out: &mut O, text: &[u8], status: Status) -> Status
+    ensures { spec.IsPut (Rose (O.faults out.old) (O.faults out.new)) (O.took out.old) (O.took out.new) text.now status result }
+{
+    match put_all(out, text) {
+        Ok(()) => status,
+        Err(PutFault::Memory) => Status::Memory,
+        Err(PutFault::Failed) => Status::WriteFault,
+    }
+}
 
 // Puts the line of a status that has one.
 fn put_line<O: Sink>(alloc: Global, out: &mut O, status: Status) -> Status
@@ -25,11 +39,7 @@ fn put_line<O: Sink>(alloc: Global, out: &mut O, status: Status) -> Status
     let Ok(text) = line_of_status(alloc, &status) else {
         return Status::Memory;
     };
-    match put_all(out, &text) {
-        Ok(()) => status,
-        Err(PutFault::Memory) => Status::Memory,
-        Err(PutFault::Failed) => Status::WriteFault,
-    }
+    put_text(out, &text, status)
 }
 
 // Puts the line of what stops the run. Want of memory has none.
@@ -72,7 +82,21 @@ fn answer_all<O: Sink>(alloc: Global, inputs: Inputs, out: &mut O) -> Status
     }
 }
 
-// Reads the inputs and puts the report, or the line of what stops the run.
+// Puts what the diagram at the path is upgraded to, or the line of what stops the run.
+fn put_upgraded<H: Shelf, O: Sink>(alloc: Global, path: &str, shelf: &mut H, out: &mut O) -> Status
+    ensures due { ((status : StatusValue) × (text : List ℕ)
+        × spec.IsUpgradeDue path.now (H.holds shelf.old) (Rose (H.faults shelf.old) (H.faults shelf.new)) status text
+        × spec.IsPut (Rose (O.faults out.old) (O.faults out.new)) (O.took out.old) (O.took out.new) text status result)
+        ⊎ ((result ≡ Status.Memory) × (O.took out.new ≡ O.took out.old)) }
+    ensures holds { H.holds shelf.new ≡ H.holds shelf.old }
+{
+    match upgraded_at(alloc, path, shelf) {
+        Ok(text) => put_text(out, &text, Status::Done),
+        Err(status) => put_stop(alloc, out, status),
+    }
+}
+
+// Reads what the words name and puts the report or the upgraded diagram, or the line of what stops the run.
 fn run_to_end<H: Shelf, O: Sink>(
     alloc: Global,
     words: &[String],
@@ -89,6 +113,9 @@ fn run_to_end<H: Shelf, O: Sink>(
     }) result }
     ensures holds { H.holds shelf.new ≡ H.holds shelf.old }
 {
+    if let Some(path) = upgrade_path_of(words) {
+        return put_upgraded(alloc, path, shelf, out);
+    }
     let Some((diagram, script)) = paths_of(words) else {
         return put_line(alloc, out, Status::Usage);
     };
@@ -100,7 +127,8 @@ fn run_to_end<H: Shelf, O: Sink>(
 
 /// Does all that the program does: reads the diagram and the script at the two paths that `words` are,
 /// answers each line of the script over the diagram's contracts and those of the earlier answers, and puts
-/// each answer as soon as it is made. `words` are the words after the program's name.
+/// each answer as soon as it is made. Where the words are a path and `--upgrade`, it puts what the diagram at
+/// the path is upgraded to. `words` are the words after the program's name.
 ///
 /// The first fault ends the run, in this order: the words, then for the diagram and the script the fetch and
 /// the reading, then the output. A script that asks for an operation that is not answered yet is a fault of
@@ -113,8 +141,10 @@ pub fn run<H: Shelf, O: Sink>(
     shelf: &mut H,
     out: &mut O,
 ) -> Status
-    ensures headline { spec.IsAnswered result
-        → spec.TookTrueReport (map string_bytes words.now.items) (H.holds shelf.old) (O.took out.old) (O.took out.new) result }
+    ensures headline { (paths : Paths) → paths_of (map string_bytes words.now.items) ≡ Some paths → spec.IsAnswered result
+        → spec.TookTrueReport paths (H.holds shelf.old) (O.took out.old) (O.took out.new) result }
+    ensures upgrade { (path : List ℕ) → upgrade_path_of (map string_bytes words.now.items) ≡ Some path → result ≡ Status.Done
+        → spec.TookUpgrade path (H.holds shelf.old) (O.took out.old) (O.took out.new) }
     ensures caused { spec.IsCaused (record {
       words = map string_bytes words.now.items;
       told = H.holds shelf.old;
@@ -126,6 +156,9 @@ pub fn run<H: Shelf, O: Sink>(
     ensures complete { (ready : spec.IsReady (map string_bytes words.now.items) (H.holds shelf.old))
         → ¬ Rose (H.faults shelf.old) (H.faults shelf.new) → ¬ Rose (O.faults out.old) (O.faults out.new)
         → spec.IsWhole ready (O.took out.old) (O.took out.new) result ⊎ (result ≡ Status.Memory) }
+    ensures complete_upgrade { (ready : spec.IsReadyUpgrade (map string_bytes words.now.items) (H.holds shelf.old))
+        → ¬ Rose (H.faults shelf.old) (H.faults shelf.new) → ¬ Rose (O.faults out.old) (O.faults out.new)
+        → ((result ≡ Status.Done) × (O.took out.new ≡ with_bytes (O.took out.old) ready.text)) ⊎ (result ≡ Status.Memory) }
     ensures holds { H.holds shelf.new ≡ H.holds shelf.old }
 {
     run_to_end(alloc, words, shelf, out)

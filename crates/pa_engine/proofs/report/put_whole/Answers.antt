@@ -1,4 +1,4 @@
-use Rattle.std.proofs.Common.{◌≡◌, ◌∙◌, ap, length}
+use Rattle.std.proofs.Common.{◌∙◌, ap, length}
 use Rattle.pa_engine.proofs.Puts.{if_err}
 use Rattle.pa_engine.proofs.Turns.{front_of_first, front_of_answers, front_of_last, whole_report}
 use Rattle.pa_engine.proofs.report.put_whole.Goals as goal
