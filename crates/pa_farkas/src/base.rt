@@ -2,7 +2,9 @@
 ghost use Rattle.std.specs.Prelude.{◌≡◌, ◌≤◌, All, IfOk, Ok, length, pos, replicate};
 ghost use Rattle.pa_math.specs.Answers.{IsAnswer, and_then};
 ghost use Rattle.pa_meaning.specs.Weights as weights;
+ghost use Rattle.pa_tableau.specs.Work.{HasRoom};
 ghost use Rattle.pa_bland.specs.Answered.{Shows};
+ghost use Rattle.pa_bland.specs.Seen.{KeepsRoom};
 ghost use Rattle.pa_bland.specs.declared.answer.Answer.TheVariants as Answer;
 ghost use Rattle.pa_replay.specs.Shown.{ShowsLeast};
 ghost use Rattle.pa_row.specs.declared.place.Sub.TheVariants as Sub;
@@ -13,9 +15,10 @@ ghost use Rattle.pa_farkas.specs.Answered as spec;
 
 use crate::checked::{point_checked, weights_checked};
 use crate::fault::read_halt;
+use crate::problem::{solved, zeros};
 use crate::read::least_point;
-use crate::solved::{solved, zeros};
 use pa_bland::{Answer, EndlessAnswer, LeastAnswer};
+use pa_frac::Wide126;
 use pa_row::{Halt, Point, Row, Sub, Task, Weights};
 use pa_tableau::Work;
 use std::alloc::Global;
@@ -108,12 +111,35 @@ fn by_base(
 }
 
 /// Whether a point meets the rows: one that does, or weights that prove `0 <= -1` (J. Farkas, Theorie der einfachen
-/// Ungleichungen, 1902). Each is checked by sums before it is answered.
+/// Ungleichungen, 1902), over a work that serves many questions. Each is checked by sums before it is answered.
 ///
-/// The rows have this many columns, at most 128, there are at most 4,096 of them, and `most` is at most 4,096. `PivotLimit`
-/// and `Wide` name the task and, at the problem with the target 0, a cell of the run, a number that is read at its end, or
-/// a sum of the check. `PivotLimit` comes exactly where the run has made `most` pivots and another one is to come, `Wide`
-/// exactly where a number passes 126 bits before that, and `Memory` where memory runs out.
+/// The rows have this many columns, at most 128, there are at most 4,096 of them, the work has room, and `most` is at most
+/// 4,096. `PivotLimit` and `Wide` name the task and, at the problem with the target 0, a cell of the run, a number that is
+/// read at its end, or a sum of the check. `PivotLimit` comes exactly where the run has made `most` pivots and another one
+/// is to come, `Wide` exactly where a number passes 126 bits before that, and `Memory` where memory runs out.
+pub fn feasible_in(
+    alloc: Global,
+    work: &mut Work<Wide126>,
+    rows: &[Row],
+    columns: u32,
+    most: u32,
+    task: Task,
+) -> Result<Feasibility, Halt>
+    requires columns { All (λ r. length r.c ≡ columns) rows.now }
+    requires few { length rows.now ≤ 4096 }
+    requires short { columns ≤ 128 }
+    requires room { HasRoom columns (length rows.now) work.old }
+    requires most { most ≤ 4096 }
+    ensures room { KeepsRoom work.old work.new }
+    ensures answer { IsAnswer Halt.Memory (spec.feasible_of columns rows.now most task) result }
+    ensures truth { IfOk result (IsFeasibility columns rows.now) }
+{
+    let target = zeros(alloc, columns as usize)?;
+    let answer = solved(alloc, work, rows, &target, most, task, Sub::Base)?;
+    by_base(alloc, rows, columns, task, answer)
+}
+
+/// The same in a work of its own.
 pub fn feasible(
     alloc: Global,
     rows: &[Row],
@@ -128,10 +154,8 @@ pub fn feasible(
     ensures answer { IsAnswer Halt.Memory (spec.feasible_of columns rows.now most task) result }
     ensures truth { IfOk result (IsFeasibility columns rows.now) }
 {
-    let target = zeros(alloc, columns as usize)?;
     let Ok(mut work) = Work::new(alloc, columns, rows.len() as u32) else {
         return Err(Halt::Memory);
     };
-    let answer = solved(alloc, &mut work, rows, &target, most, task, Sub::Base)?;
-    by_base(alloc, rows, columns, task, answer)
+    feasible_in(alloc, &mut work, rows, columns, most, task)
 }

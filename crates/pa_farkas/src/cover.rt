@@ -12,8 +12,8 @@ ghost use Rattle.pa_farkas.specs.Answered as spec;
 
 use crate::checked::weights_checked;
 use crate::fault::wide_in;
+use crate::problem::solved;
 use crate::read::{compared, is_above};
-use crate::solved::solved;
 use pa_bland::{Answer, EndlessAnswer, LeastAnswer};
 use pa_frac::Wide126;
 use pa_row::{Halt, Row, Spot, Sub, Task, Weights};

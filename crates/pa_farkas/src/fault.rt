@@ -40,15 +40,15 @@ pub(crate) fn halt_of(task: Task, sub: Sub, fault: SolveError) -> Halt
     }
 }
 
-/// A number that passes the width at a place.
-pub(crate) fn wide_in(task: Task, sub: Sub, spot: Spot) -> Halt
+/// A number that passes the width, by its task, by the problem that was solved last, and by the spot.
+pub fn wide_in(task: Task, sub: Sub, spot: Spot) -> Halt
     ensures { result ≡ spec.wide_in task sub spot (record {}) }
 {
     Halt::Wide(Place { task, sub, spot })
 }
 
-/// A fault of a sum on rows, at what is read.
-pub(crate) fn read_halt(task: Task, sub: Sub, fault: RowFault) -> Halt
+/// A fault of what is read at the end of a problem.
+pub fn read_halt(task: Task, sub: Sub, fault: RowFault) -> Halt
     ensures { result ≡ spec.read_halt task sub fault }
 {
     match fault {

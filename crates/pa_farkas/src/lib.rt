@@ -11,13 +11,15 @@ mod checked;
 mod cover;
 mod fault;
 mod implication;
+mod problem;
 mod read;
 mod sieve;
-mod solved;
 
-pub use base::{Feasibility, feasible};
+pub use base::{Feasibility, feasible, feasible_in};
 pub use cover::{covered, covered_in};
+pub use fault::{read_halt, wide_in};
 pub use implication::{Verdict, implied, implied_in};
+pub use problem::solved;
 pub use sieve::{Thinned, thin, thin_in};
 
 #[cfg(test)]

@@ -34,8 +34,13 @@ pub(crate) fn zeros(alloc: Global, columns: usize) -> Result<Vec<i128>, Halt>
     }
 }
 
-/// The answer to the problem of these rows and this target.
-pub(crate) fn solved(
+/// The answer to the problem of these rows and this target (`pa_bland::solve_answer`), over a work that serves many
+/// problems. Nothing of it is checked yet.
+///
+/// The rows have as many columns as the target has numbers, at most 128, there are at most 4,096 of them, the target's
+/// numbers are below `2^126` in absolute value, the work has room, and `most` is at most 4,096. `PivotLimit` and `Wide` name
+/// the task, the problem and a cell of the run or what is read at its end; `Memory` where memory runs out.
+pub fn solved(
     alloc: Global,
     work: &mut Work<Wide126>,
     rows: &[Row],
