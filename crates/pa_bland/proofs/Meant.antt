@@ -1,6 +1,7 @@
 -- An answer shows of the problem what it says, and the limit of pivots is never met where there are no more bases.
 use Rattle.std.proofs.Common.{◌≡◌, ◌⊎◌, inl, inr, Bool, true, false, if◌then◌else◌, ℕ, ◌≤◌, Result, Ok, Err, length}
-use Rattle.std.proofs.Common.{IfOk, refl, sym, ap, subst, ◌∙◌}
+use Rattle.std.proofs.Common.{All, IfOk, refl, sym, ap, subst, ◌∙◌}
+use Rattle.pa_meaning.specs.Rows.{Row}
 use Rattle.pa_math.specs.Answers.{IsAnswer, and_then, seen_as, told_as}
 use Rattle.pa_frac.specs.declared.wide.Wide.{Wide}
 use Rattle.pa_tableau.specs.declared.wide_at.WideAt.{WideAt}
@@ -36,26 +37,27 @@ never_limited : {X : Type 0} (make : X → Answer) (r : Result X Wide) → told_
 never_limited make (Ok x) e = cc
 never_limited make (Err wide) e = cc
 
--- at each «end»
-read_shows : (p : Problem) (answer : Result End SolveFault) (ended : Ended) (a : Answer) → IsPosed p → IsSolved p ended → HasSigns p ended.table →
-    ended.answer ≡ answer → answer_read (length p.target) (length p.rows) answer ended.table ≡ Ok a → Shows p a
-read_shows p (Ok ends.Least) ended a posed s signs e h =
+-- at each «end», where the rows have the target's columns
+pub read_shows : (p : Problem) (answer : Result End SolveFault) (ended : Ended) (a : Answer) → All (λ (row : Row). length row.c ≡ length p.target) p.rows
+    → IsSolved p ended → HasSigns p ended.table → ended.answer ≡ answer → answer_read (length p.target) (length p.rows) answer ended.table ≡ Ok a
+    → Shows p a
+read_shows p (Ok ends.Least) ended a columns s signs e h =
     let (x, read, is) = read_as Least (least_answer (length p.target) (length p.rows) ended.table) a h in
-    subst (Shows p) (sym is) (least_shown p ended s x e posed.columns signs read)
-read_shows p (Ok ends.NoWeights) ended a posed s signs e h =
+    subst (Shows p) (sym is) (least_shown p ended s x e columns signs read)
+read_shows p (Ok ends.NoWeights) ended a columns s signs e h =
     let (x, read, is) = read_as NoWeights (direction_answer (length p.target) (length p.rows) ended.table) a h in
-    subst (Shows p) (sym is) (no_weights_shown p ended s x e posed.columns signs read)
-read_shows p (Ok (ends.Endless c)) ended a posed s signs e h =
+    subst (Shows p) (sym is) (no_weights_shown p ended s x e columns signs read)
+read_shows p (Ok (ends.Endless c)) ended a columns s signs e h =
     let (x, read, is) = read_as Endless (endless_answer (length p.target) (length p.rows) c ended.table) a h in
-    subst (Shows p) (sym is) (endless_shown p ended c s x e posed.columns read)
-read_shows p (Err fault) ended a posed s signs e h = absurd (cc)
+    subst (Shows p) (sym is) (endless_shown p ended c s x e columns read)
+read_shows p (Err fault) ended a columns s signs e h = absurd (cc)
 
 -- what is read where a run over a width came to its «end»
 pub run_shows : (w : ℕ) (p : Problem) (most : ℕ) («end» : End) (t : Tableau) (r : Result Answer SolveError) → IsPosed p →
     ended (Ok «end») t ≡ replay (at_width w) p most → IsAnswer errors.Memory (answer_read (length p.target) (length p.rows) (Ok «end») t) r → IfOk r (Shows p)
 run_shows w p most «end» t (Ok a) posed e h =
     let stop : Ended = record { answer = Ok «end»; table = t } in
-    read_shows p (Ok «end») stop a posed (width_solved w p most stop e) (replay_signs (at_width w) p most stop e) refl h
+    read_shows p (Ok «end») stop a posed.columns (width_solved w p most stop e) (replay_signs (at_width w) p most stop e) refl h
 run_shows w p most «end» t (Err fault) posed e h = tt
 
 -- what is read at an «end» is no limit of pivots

@@ -5,3 +5,4 @@ pub mod Shown
 pub mod Filters
 pub mod FilterTurns
 pub mod Placed
+pub mod Defined
