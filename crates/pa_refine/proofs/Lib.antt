@@ -1,0 +1,6 @@
+mod Ports
+mod Over
+mod Covered
+mod Values
+pub mod Meant
+pub mod Defined

@@ -1,0 +1,12 @@
+pub mod Refining
+pub mod Bounding
+pub mod Meant
+pub mod Seen
+pub use Rattle.pa_meaning.specs.Refinement
+pub use Rattle.pa_meaning.specs.Bounds
+pub use Rattle.pa_holds.specs.Refined
+pub use Rattle.pa_holds.specs.Bounded
+pub use Rattle.pa_holds.specs.Refusals
+pub use Rattle.pa_farkas.specs.Answered
+pub use Rattle.pa_farkas.specs.Alternatives
+pub use Rattle.pa_check.specs.Goals
