@@ -18,7 +18,7 @@ mod table;
 mod write;
 
 pub use answer::{Answer, Composed, Divided, Hidden, LineAnswer};
-pub use limits::{FIRST_PIVOTS, FIRST_ROWS, InForce};
+pub use limits::{FIRST_PIVOTS, FIRST_ROWS};
 pub use lists::{
     Discharges, Drops, Heading, Located, Marks, NamedStep, Proofs, Steps, StuckRow, StuckRows,
 };

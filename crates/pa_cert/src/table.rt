@@ -1,13 +1,14 @@
 // The contracts by name, the nominal values, and the limits in force.
 ghost use Rattle.std.specs.Prelude.{◌≡◌, OnOk, OnErr, length, option_map};
 ghost use Rattle.pa_contract.specs.Named.{contract_named};
-ghost use Rattle.pa_script.specs.Ops.{result_of};
+ghost use Rattle.pa_script.specs.Ops.{IsWellFormedOp, result_of};
 ghost use Rattle.pa_cert.specs.Tables as spec;
 
 use crate::limits::{FIRST_PIVOTS, FIRST_ROWS};
-use crate::{Answer, InForce, LineAnswer};
+use crate::{Answer, LineAnswer};
 use pa_contract::{Contract, Contracts, Named, Nominal};
 use pa_names::Name;
+use pa_row::Limits;
 use pa_script::{Op, ScriptLine};
 use std::alloc::{AllocError, Global};
 use std::marker::Model;
@@ -18,7 +19,7 @@ use std::marker::Model;
 pub struct Table {
     contracts: Contracts,
     nominal: Nominal,
-    limits: InForce,
+    limits: Limits,
 }
 
 impl Model for Table {
@@ -38,7 +39,7 @@ impl Table {
         Table {
             contracts,
             nominal,
-            limits: InForce {
+            limits: Limits {
                 rows: FIRST_ROWS,
                 pivots: FIRST_PIVOTS,
             },
@@ -67,7 +68,7 @@ impl Table {
     }
 
     /// The limits in force.
-    pub fn limits(&self) -> InForce
+    pub fn limits(&self) -> Limits
         ensures rows { result.rows ≡ self.now.limits.rows }
         ensures pivots { result.pivots ≡ self.now.limits.pivots }
     {
@@ -101,11 +102,22 @@ impl Table {
 
     // Sets the limit of a limit line.
     fn set_limit(&mut self, op: &Op)
+        requires { IsWellFormedOp op.now }
         ensures { self.new ≡ spec.with_limit self.old op.now }
     {
         match op {
-            Op::LimitRows { most } => self.limits.rows = *most,
-            Op::LimitPivots { most } => self.limits.pivots = *most,
+            Op::LimitRows { most } => {
+                self.limits = Limits {
+                    rows: *most,
+                    pivots: self.limits.pivots,
+                }
+            }
+            Op::LimitPivots { most } => {
+                self.limits = Limits {
+                    rows: self.limits.rows,
+                    pivots: *most,
+                }
+            }
             Op::Merge { .. }
             | Op::Test { .. }
             | Op::Refine { .. }
@@ -137,7 +149,8 @@ impl Table {
         line: &ScriptLine,
         answer: LineAnswer,
     ) -> Result<(), AllocError>
-        requires { spec.CanAdvance self.old line.now.op answer }
+        requires well_formed { IsWellFormedOp line.now.op }
+        requires free { spec.CanAdvance self.old line.now.op answer }
         ensures ok { OnOk result (self.new ≡ spec.advanced self.old line.now.op answer) }
         ensures err { OnErr result (self.new ≡ self.old) }
     {
