@@ -1,3 +1,5 @@
-pub mod Ports
+mod Ports
+mod Questions
+mod Headings
 pub mod Truths
 pub mod Scripts

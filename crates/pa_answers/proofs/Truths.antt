@@ -1,43 +1,52 @@
 -- The answer to each line is true of the table, by definitions alone, and the table can go past it: so all answers of a script are
 -- true, each of the table that the earlier ones leave.
-use Rattle.std.proofs.Common.{◌≡◌, List, [], ◌∷◌, ◌++◌, refl, sym, ◌∙◌, subst, ℕ, Option, Some, None, Result, Ok, Err}
-use Rattle.std.proofs.Common.{Bool, true, false, cond, All, IfOk}
-use Rattle.std.specs.Prelude.{option_and_then, is_some, position, IfSome}
+use Rattle.std.proofs.Common.{◌≡◌, List, [], ◌∷◌, refl, sym, ap, ap₂, subst, Option, Some, None, Result, Ok, Err}
+use Rattle.std.proofs.Common.{Bool, true, false, cond, All, IfOk, option_map}
+use Rattle.std.specs.Prelude.{option_and_then, is_some, IfSome}
 use Rattle.std.proofs.lemmas.List.Elements.{All-head, All-tail}
 use Rattle.pa_math.specs.Answers.{given}
 use Rattle.pa_meaning.specs.Rows.{Point}
-use Rattle.pa_meaning.specs.Merge.{IsMerge}
+use Rattle.pa_meaning.specs.Bounds.{Goal}
 use Rattle.pa_meaning.specs.Contracts.{Name, Contract, ports}
-use Rattle.pa_contract.specs.Merge.{merge_of, merged, first_clash}
-use Rattle.pa_contract.specs.Testing.{Tested, tested, words_of, passes_at, sum_place}
+use Rattle.pa_row.specs.declared.step.Broken.TheVariants.{Assumption, Guarantee}
+use Rattle.pa_contract.specs.Merge.{merge_of}
+use Rattle.pa_contract.specs.Testing.{Tested, tested}
 use Rattle.pa_contract.specs.Named.{contract_named, contracts_named}
 use Rattle.pa_contract.specs.WellFormed.{IsWellFormed}
 use Rattle.pa_contract.specs.declared.fault.MergeFault.{MergeFault}
 use Rattle.pa_contract.specs.declared.fault.MergeFault.TheVariants as merging
 use Rattle.pa_contract.specs.declared.fault.TestFault.{TestFault}
 use Rattle.pa_contract.specs.declared.fault.TestFault.TheVariants as testing
-use Rattle.pa_contract.proofs.Meets.{merged_is_merge}
-use Rattle.pa_contract.proofs.Words.{tested_is_tested}
 use Rattle.pa_script.specs.declared.op.ScriptLine.{ScriptLine}
 use Rattle.pa_script.specs.declared.op.Op.{Op}
 use Rattle.pa_script.specs.declared.op.Op.TheVariants.{LimitRows, LimitPivots, Merge, Test, Refine, Bound, Hide, Compose, Quotient}
-use Rattle.pa_script.specs.Ops.{operands, result_of, IsPointOf, IsWellFormedOp, IsWellFormedLine}
+use Rattle.pa_script.specs.Ops.{operands, result_of, IsPointOf, IsGoal, IsWellFormedOp, IsWellFormedLine}
 use Rattle.pa_cert.specs.declared.refusal.NameRefusal.TheVariants.{UnknownPort, PortClash, Variables, Rows}
 use Rattle.pa_cert.specs.declared.answer.Answer.TheVariants.{Merged, TestedAs, Refused, TooWide}
 use Rattle.pa_cert.specs.declared.answer.LineAnswer.{LineAnswer}
 use Rattle.pa_cert.specs.declared.answer.LineAnswer.TheVariants.{Set, Unknown, Taken, Answered as AnsweredBy}
 use Rattle.pa_cert.specs.Tables.{Table, contract_of, IsFree, CanAdvance}
 use Rattle.pa_holds.specs.Refusals.{first_missing}
+use Rattle.pa_holds.specs.Questions.{Merging, Testing, Refining, Bounding}
 use Rattle.pa_holds.specs.Tables.{unknown, taken, IsTrueOf, AreTrue}
-use Rattle.pa_holds.proofs.Refusals.{merge_clear, merge_computed}
 use Rattle.pa_holds.proofs.Tables.{OfSome, one_has}
 use Rattle.pa_holds.proofs.Lookups.{merge_known, merge_lacks_left, merge_lacks_right, merge_is_free, merge_is_taken, merge_line_is_true, merge_taken_is_true}
 use Rattle.pa_holds.proofs.Lookups.{test_lacks, test_line_is_true}
-use Rattle.pa_holds.proofs.Merging.{none_due, merge_is_true, clash_is_true, many_ports_is_true, many_rows_is_true}
-use Rattle.pa_holds.proofs.Tested.{test_answer_is_true, wide_test_is_true, unknown_port_is_true}
 use Rattle.pa_holds.proofs.Stays.{IsMergeAtMost, true_table_stays}
+use Rattle.pa_refine.specs.declared.answer.Refined.{Refined}
+use Rattle.pa_refine.specs.declared.answer.Refined.TheVariants as refined
+use Rattle.pa_refine.specs.declared.answer.Bounded.{Bounded}
+use Rattle.pa_refine.specs.declared.answer.Bounded.TheVariants as bounded
+use Rattle.pa_refine.specs.declared.fault.RefineFault.{RefineFault}
+use Rattle.pa_refine.specs.declared.fault.RefineFault.TheVariants as refining
+use Rattle.pa_refine.specs.declared.fault.BoundFault.{BoundFault}
+use Rattle.pa_refine.specs.declared.fault.BoundFault.TheVariants as bounding
+use Rattle.pa_refine.specs.Refining.{refined_of}
+use Rattle.pa_refine.specs.Bounding.{bounded_of}
 use Rattle.pa_answers.specs.Built.{is_built}
-use Rattle.pa_answers.specs.Answers.{merge_answer, words_answer, test_answer, at_ports, answer_on, answer_of, answers_from, past, AreFormed}
+use Rattle.pa_answers.specs.Answers.{merge_answer, words_answer, test_answer, refine_answer, bound_answer, at_ports, answer_on, answer_of}
+use Rattle.pa_answers.specs.Answers.{answers_from, past, AreFormed}
+use Rattle.pa_answers.proofs.Questions.{IsTrueTo, merge_true, test_true, refine_true, bound_true}
 
 -- an answer that is true, and that has a contract only where it is a merge
 abbrev IsGood : Table → Op → LineAnswer → Type 0
@@ -52,53 +61,45 @@ answer_taken : (table : Table) (op : Op) (name : Name) → unknown table.contrac
 answer_taken table op name known there = rw (known, there) refl
 
 answer_given : (table : Table) (op : Op) (cs : List Contract) → unknown table.contracts op ≡ None → taken table.contracts op ≡ None
-    → contracts_named table.contracts (operands op) ≡ Some cs → answer_of table op ≡ answer_on op cs
+    → contracts_named table.contracts (operands op) ≡ Some cs → answer_of table op ≡ answer_on table op cs
 answer_given table op cs known free named = rw (known, free, named) refl
 
--- where each name is a port
-pub test_known : (c : Contract) (names : List Name) (x : Point) → first_missing (ports c) names ≡ None
-    → test_answer c names x ≡ words_answer (tested c (at_ports c names x))
-test_known c names x h = rw h refl
+-- ---- lines whose contracts are there
+pub merge_given : (table : Table) (result left right : Name) (a b : Contract) → contract_named table.contracts left ≡ Some a
+    → contract_named table.contracts right ≡ Some b → is_some (contract_named table.contracts result) ≡ false
+    → answer_of table (Merge result left right) ≡ merge_answer (merge_of a b)
+merge_given table result left right a b h k free = rw (h, k, free) refl
 
--- ---- want of memory is never computed
-never_memory : (clash : Option Name) (wide long : Bool) (n k : ℕ) (m : Contract)
-    → given (cond wide (Err (merging.VariableLimit n)) (cond long (Err (merging.Load k)) (Ok m))) clash (λ name. Err (merging.PortClash name))
-    ≡ Err merging.Memory → ⊥
-never_memory (Some name) wide long n k m h = absurd (cc)
-never_memory None true long n k m h = absurd (cc)
-never_memory None false true n k m h = absurd (cc)
-never_memory None false false n k m h = absurd (cc)
+pub test_given : (table : Table) (of : Name) (names : List Name) (x : Point) (c : Contract) → contract_named table.contracts of ≡ Some c
+    → answer_of table (Test of names x) ≡ test_answer c names x
+test_given table of names x c h = rw h refl
 
-never_memory_words : (row : Option ℕ) (t : Tested) → given (Ok t) row (λ i. Err (testing.Wide (sum_place i))) ≡ Err testing.Memory → ⊥
-never_memory_words None t h = absurd (cc)
-never_memory_words (Some row) t h = absurd (cc)
+pub refine_given : (table : Table) (left right : Name) (a b : Contract) → contract_named table.contracts left ≡ Some a
+    → contract_named table.contracts right ≡ Some b
+    → answer_of table (Refine left right) ≡ refine_answer a (refined_of a b table.limits.pivots)
+refine_given table left right a b h k = rw (h, k) refl
+
+pub bound_given : (table : Table) (of : Name) (least : Bool) (goal : Goal) (c : Contract) → contract_named table.contracts of ≡ Some c
+    → answer_of table (Bound of least goal) ≡ bound_answer c (bounded_of c goal least table.limits.pivots)
+bound_given table of least goal c h = rw h refl
 
 module _ (table : Table) (formed : AreFormed table) where
   found_formed : (name : Name) (c : Contract) → contract_named table.contracts name ≡ Some c → IsWellFormed c
   found_formed name c is = subst (OfSome IsWellFormed) is (one_has IsWellFormed table.contracts name formed)
 
   -- ---- merges
-  is_merge : (a b m : Contract) → IsWellFormed a → IsWellFormed b → merge_of a b ≡ Ok m → IsMerge a b m
-  is_merge a b m wa wb is =
-      let none = none_due a b m is in
-      let e : Ok (merged a b) ≡ Ok m = sym (merge_computed a b none) ∙ is in
-      let same : merged a b ≡ m = cc in
-      subst (IsMerge a b) same (merged_is_merge a b wa.distinct wb.distinct (merge_clear a b none))
-
   merge_good : (result left right : Name) (a b : Contract)
       → contract_named table.contracts left ≡ Some a → contract_named table.contracts right ≡ Some b
-      → contract_named table.contracts result ≡ None → (r : Result Contract MergeFault) → merge_of a b ≡ r
-      → IsGood table (Merge result left right) (merge_answer r)
-  merge_good result left right a b h k free (Ok m) is =
-      let meant = is_merge a b m (found_formed left a h) (found_formed right b k) is in
-      (merge_line_is_true table result left right a b (Merged m) h k free (merge_is_true a b m is meant), tt)
-  merge_good result left right a b h k free (Err (merging.PortClash name)) is =
-      (merge_line_is_true table result left right a b (Refused (PortClash name)) h k free (clash_is_true a b name is), tt)
-  merge_good result left right a b h k free (Err (merging.VariableLimit count)) is =
-      (merge_line_is_true table result left right a b (Refused (Variables count)) h k free (many_ports_is_true a b count is), tt)
-  merge_good result left right a b h k free (Err (merging.Load count)) is =
-      (merge_line_is_true table result left right a b (Refused (Rows count)) h k free (many_rows_is_true a b count is), tt)
-  merge_good result left right a b h k free (Err merging.Memory) is = absurd (never_memory (first_clash a b) _ _ _ _ (merged a b) is)
+      → contract_named table.contracts result ≡ None → IsGood table (Merge result left right) (merge_answer (merge_of a b))
+  merge_good result left right a b h k free =
+      by (merge_of a b) (merge_true a b (found_formed left a h) (found_formed right b k) (merge_of a b) refl)
+    where
+      by : (r : Result Contract MergeFault) → IsTrueTo (Merging a b) (merge_answer r) → IsGood table (Merge result left right) (merge_answer r)
+      by (Ok m) t = (merge_line_is_true table result left right a b (Merged m) h k free t, tt)
+      by (Err (merging.PortClash name)) t = (merge_line_is_true table result left right a b (Refused (PortClash name)) h k free t, tt)
+      by (Err (merging.VariableLimit count)) t = (merge_line_is_true table result left right a b (Refused (Variables count)) h k free t, tt)
+      by (Err (merging.Load count)) t = (merge_line_is_true table result left right a b (Refused (Rows count)) h k free t, tt)
+      by (Err merging.Memory) t = absurd t
 
   -- by what stands under the three names
   merge_at : (result left right : Name) (x y z : Option Contract) → contract_named table.contracts left ≡ x → contract_named table.contracts right ≡ y
@@ -121,30 +122,20 @@ module _ (table : Table) (formed : AreFormed table) where
       let cs : contracts_named table.contracts (operands op) ≡ Some (a ∷ b ∷ []) = rw (h, k) refl in
       let here = answer_given table op (a ∷ b ∷ []) (merge_known table.contracts result left right a b h k)
       (merge_is_free table.contracts result left right l) cs in
-      subst (IsGood table op) (sym here) (merge_good result left right a b h k l (merge_of a b) refl)
+      subst (IsGood table op) (sym here) (merge_good result left right a b h k l)
 
   -- ---- tests
-  words_good : (of : Name) (names : List Name) (x : Point) → IsPointOf names x → (c : Contract) → contract_named table.contracts of ≡ Some c
-      → first_missing (ports c) names ≡ None → (r : Result Tested TestFault) → tested c (at_ports c names x) ≡ r
-      → IsGood table (Test of names x) (words_answer r)
-  words_good of names x p c h known (Ok t) is =
-      let words = tested_is_tested c (at_ports c names x) t is in
-      let answer = test_answer_is_true c names x p.positive (at_ports c names x) t (found_formed of c h) known refl words in
-      (test_line_is_true table of names x c (TestedAs t) h answer, tt)
-  words_good of names x p c h known (Err (testing.Wide place)) is =
-      (test_line_is_true table of names x c (TooWide place) h (wide_test_is_true c names x (at_ports c names x) place known is), tt)
-  words_good of names x p c h known (Err testing.Memory) is =
-      let at = at_ports c names x in
-      absurd (never_memory_words (position (passes_at at) (c.assumptions ++ c.guarantees)) (words_of c.assumptions c.guarantees at) is)
-
   test_good : (of : Name) (names : List Name) (x : Point) → IsPointOf names x → (c : Contract) → contract_named table.contracts of ≡ Some c
-      → (missing : Option Name) → first_missing (ports c) names ≡ missing → IsGood table (Test of names x) (test_answer c names x)
-  test_good of names x p c h (Some name) is =
-      let told : test_answer c names x ≡ AnsweredBy (Refused (UnknownPort name)) = rw is refl in
-      let truth = unknown_port_is_true c names x name is in
-      subst (IsGood table (Test of names x)) (sym told) (test_line_is_true table of names x c (Refused (UnknownPort name)) h truth, tt)
-  test_good of names x p c h None is =
-      subst (IsGood table (Test of names x)) (sym (test_known c names x is)) (words_good of names x p c h is (tested c (at_ports c names x)) refl)
+      → IsGood table (Test of names x) (test_answer c names x)
+  test_good of names x p c h = by (first_missing (ports c) names) (tested c (at_ports c names x)) (test_true c names x (found_formed of c h) p)
+    where
+      by : (missing : Option Name) (r : Result Tested TestFault)
+          → IsTrueTo (Testing c names x) (given (words_answer r) missing (λ name. AnsweredBy (Refused (UnknownPort name))))
+          → IsGood table (Test of names x) (given (words_answer r) missing (λ name. AnsweredBy (Refused (UnknownPort name))))
+      by (Some name) r t = (test_line_is_true table of names x c (Refused (UnknownPort name)) h t, tt)
+      by None (Ok words) t = (test_line_is_true table of names x c (TestedAs words) h t, tt)
+      by None (Err (testing.Wide place)) t = (test_line_is_true table of names x c (TooWide place) h t, tt)
+      by None (Err testing.Memory) t = absurd t
 
   test_at : (of : Name) (names : List Name) (x : Point) → IsPointOf names x → (found : Option Contract) → contract_named table.contracts of ≡ found
       → IsGood table (Test of names x) (answer_of table (Test of names x))
@@ -156,7 +147,79 @@ module _ (table : Table) (formed : AreFormed table) where
       let op = Test of names x in
       let known : unknown table.contracts op ≡ None = rw h refl in
       let cs : contracts_named table.contracts (operands op) ≡ Some (c ∷ []) = rw h refl in
-      subst (IsGood table op) (sym (answer_given table op (c ∷ []) known refl cs)) (test_good of names x p c h (first_missing (ports c) names) refl)
+      subst (IsGood table op) (sym (answer_given table op (c ∷ []) known refl cs)) (test_good of names x p c h)
+
+  -- ---- refinements
+  refine_line : (left right : Name) (a b : Contract) → contract_named table.contracts left ≡ Some a → contract_named table.contracts right ≡ Some b
+      → (answer : LineAnswer) → IsTrueTo (Refining a b) answer → IsTrueOf table (Refine left right) answer
+  refine_line left right a b h k (AnsweredBy answer) t =
+      (refl, (Refining a b, ap₂ (λ l r. option_and_then (λ c. option_map (λ d. Refining c d) r) l) h k, t))
+  refine_line left right a b h k Set t = absurd t
+  refine_line left right a b h k (Unknown name) t = absurd t
+  refine_line left right a b h k (Taken name) t = absurd t
+
+  -- no answer of it has a contract
+  refine_merges : (c : Contract) (r : Result Refined RefineFault) → IsMergeAtMost (refine_answer c r)
+  refine_merges c (Ok (refined.Yes assumptions guarantees)) = tt
+  refine_merges c (Ok (refined.No (Assumption row) x)) = tt
+  refine_merges c (Ok (refined.No (Guarantee row) x)) = tt
+  refine_merges c (Err refining.Memory) = tt
+  refine_merges c (Err refining.PortsDiffer) = tt
+  refine_merges c (Err (refining.Load count)) = tt
+  refine_merges c (Err (refining.PivotLimit place)) = tt
+  refine_merges c (Err (refining.Wide place)) = tt
+
+  refine_at : (left right : Name) (x y : Option Contract) → contract_named table.contracts left ≡ x → contract_named table.contracts right ≡ y
+      → IsGood table (Refine left right) (answer_of table (Refine left right))
+  refine_at left right None y h k =
+      let op = Refine left right in
+      let first : unknown table.contracts op ≡ Some left = rw h refl in
+      subst (IsGood table op) (sym (answer_unknown table op left first)) (first, tt)
+  refine_at left right (Some a) None h k =
+      let op = Refine left right in
+      let first : unknown table.contracts op ≡ Some right = rw (h, k) refl in
+      subst (IsGood table op) (sym (answer_unknown table op right first)) (first, tt)
+  refine_at left right (Some a) (Some b) h k =
+      let op = Refine left right in
+      let most = table.limits.pivots in
+      subst (IsGood table op) (sym (refine_given table left right a b h k)) (
+        refine_line left right a b h k (refine_answer a (refined_of a b most))
+            (refine_true a b (found_formed left a h) (found_formed right b k) most),
+        refine_merges a (refined_of a b most),
+      )
+
+  -- ---- bounds
+  bound_line : (of : Name) (least : Bool) (goal : Goal) (c : Contract) → contract_named table.contracts of ≡ Some c
+      → (answer : LineAnswer) → IsTrueTo (Bounding c goal least) answer → IsTrueOf table (Bound of least goal) answer
+  bound_line of least goal c h (AnsweredBy answer) t = (refl, (Bounding c goal least, ap (option_map (λ c. Bounding c goal least)) h, t))
+  bound_line of least goal c h Set t = absurd t
+  bound_line of least goal c h (Unknown name) t = absurd t
+  bound_line of least goal c h (Taken name) t = absurd t
+
+  bound_merges : (c : Contract) (r : Result Bounded BoundFault) → IsMergeAtMost (bound_answer c r)
+  bound_merges c (Ok (bounded.Value num den w x)) = tt
+  bound_merges c (Ok (bounded.Unbounded x d)) = tt
+  bound_merges c (Ok (bounded.Nothing w)) = tt
+  bound_merges c (Err bounding.Memory) = tt
+  bound_merges c (Err (bounding.UnknownPort name)) = tt
+  bound_merges c (Err (bounding.Load count)) = tt
+  bound_merges c (Err (bounding.PivotLimit place)) = tt
+  bound_merges c (Err (bounding.Wide place)) = tt
+
+  bound_at : (of : Name) (least : Bool) (goal : Goal) → IsGoal goal → (found : Option Contract) → contract_named table.contracts of ≡ found
+      → IsGood table (Bound of least goal) (answer_of table (Bound of least goal))
+  bound_at of least goal g None h =
+      let op = Bound of least goal in
+      let first : unknown table.contracts op ≡ Some of = rw h refl in
+      subst (IsGood table op) (sym (answer_unknown table op of first)) (first, tt)
+  bound_at of least goal g (Some c) h =
+      let op = Bound of least goal in
+      let most = table.limits.pivots in
+      subst (IsGood table op) (sym (bound_given table of least goal c h)) (
+        bound_line of least goal c h (bound_answer c (bounded_of c goal least most))
+            (bound_true c goal least (found_formed of c h) g most),
+        bound_merges c (bounded_of c goal least most),
+      )
 
   -- ---- any line
   good : (op : Op) → is_built op ≡ true → IsWellFormedOp op → IsGood table op (answer_of table op)
@@ -164,8 +227,8 @@ module _ (table : Table) (formed : AreFormed table) where
   good (LimitPivots most) built w = (tt, tt)
   good (Merge result left right) built w = merge_at result left right _ _ _ refl refl refl
   good (Test of names x) built w = test_at of names x w _ refl
-  good (Refine left right) built w = absurd (cc)
-  good (Bound of least goal) built w = absurd (cc)
+  good (Refine left right) built w = refine_at left right _ _ refl refl
+  good (Bound of least goal) built w = bound_at of least goal w _ refl
   good (Hide result of names) built w = absurd (cc)
   good (Compose result parts keep) built w = absurd (cc)
   good (Quotient result whole part) built w = absurd (cc)
@@ -229,13 +292,3 @@ pub if_ok_advances : {E : Type 0} (table : Table) (op : Op) (r : Result LineAnsw
     → IfOk r (λ a. a ≡ answer_of table op) → IfOk r (CanAdvance table op)
 if_ok_advances table op (Ok a) is = subst (CanAdvance table op) (sym is) (answer_advances table op)
 if_ok_advances table op (Err e) is = tt
-
--- ---- lines whose contracts are there
-pub merge_given : (table : Table) (result left right : Name) (a b : Contract) → contract_named table.contracts left ≡ Some a
-    → contract_named table.contracts right ≡ Some b → is_some (contract_named table.contracts result) ≡ false
-    → answer_of table (Merge result left right) ≡ merge_answer (merge_of a b)
-merge_given table result left right a b h k free = rw (h, k, free) refl
-
-pub test_given : (table : Table) (of : Name) (names : List Name) (x : Point) (c : Contract) → contract_named table.contracts of ≡ Some c
-    → answer_of table (Test of names x) ≡ test_answer c names x
-test_given table of names x c h = rw h refl

@@ -1,8 +1,9 @@
 -- The answer to each line of a script: the refusal by names, ports or counts that is due first, else what the operation gives.
-use Rattle.std.specs.Prelude.{List, [], ◌∷◌, map, Result, Ok, Err, All}
+use Rattle.std.specs.Prelude.{List, [], ◌∷◌, ◌++◌, ℤ, pos, ℕ, ◌≡◌, length, map, Result, Ok, Err, All, if◌then◌else◌}
+use Rattle.std.specs.Ordering.{int_eq}
 use Rattle.pa_math.specs.Answers.{given}
 use Rattle.pa_meaning.specs.Rows.{Point}
-use Rattle.pa_meaning.specs.Contracts.{Name, Contract, Named, ports, coefficient_at}
+use Rattle.pa_meaning.specs.Contracts.{Name, Contract, ports, coefficient_at}
 use Rattle.pa_contract.specs.Merge.{merge_of}
 use Rattle.pa_contract.specs.Testing.{Tested, tested}
 use Rattle.pa_contract.specs.Named.{contracts_named}
@@ -13,15 +14,31 @@ use Rattle.pa_contract.specs.declared.fault.TestFault.{TestFault}
 use Rattle.pa_contract.specs.declared.fault.TestFault.TheVariants as testing
 use Rattle.pa_script.specs.declared.op.ScriptLine.{ScriptLine}
 use Rattle.pa_script.specs.declared.op.Op.{Op}
-use Rattle.pa_script.specs.declared.op.Op.TheVariants.{Merge, Test}
+use Rattle.pa_script.specs.declared.op.Op.TheVariants.{Merge, Test, Refine, Bound}
 use Rattle.pa_script.specs.Ops.{operands}
-use Rattle.pa_cert.specs.declared.refusal.NameRefusal.TheVariants.{UnknownPort, PortClash, Variables, Rows}
-use Rattle.pa_cert.specs.declared.answer.Answer.TheVariants.{Merged, TestedAs, Refused, TooWide}
+use Rattle.pa_row.specs.declared.place.Place.{Place}
+use Rattle.pa_row.specs.declared.step.Broken.{Broken}
+use Rattle.pa_row.specs.declared.step.Broken.TheVariants.{Assumption, Guarantee}
+use Rattle.pa_cert.specs.Lists.{Located, Heading}
+use Rattle.pa_cert.specs.declared.refusal.NameRefusal.TheVariants.{UnknownPort, PortClash, PortsDiffer, Variables, Rows}
+use Rattle.pa_cert.specs.declared.answer.Answer.TheVariants.{Merged, TestedAs, Yes, NoAssumption, NoGuarantee, Value, Unbounded, Nothing}
+use Rattle.pa_cert.specs.declared.answer.Answer.TheVariants.{Refused, PivotLimit, TooWide}
 use Rattle.pa_cert.specs.declared.answer.LineAnswer.{LineAnswer}
 use Rattle.pa_cert.specs.declared.answer.LineAnswer.TheVariants.{Set, Unknown, Taken, Answered as AnsweredBy}
 use Rattle.pa_cert.specs.Tables.{Table, Answered, advanced}
 use Rattle.pa_holds.specs.Refusals.{first_missing}
 use Rattle.pa_holds.specs.Tables.{unknown, taken}
+use Rattle.pa_refine.specs.declared.answer.Refined.{Refined}
+use Rattle.pa_refine.specs.declared.answer.Refined.TheVariants as refined
+use Rattle.pa_refine.specs.declared.answer.Bounded.{Bounded}
+use Rattle.pa_refine.specs.declared.answer.Bounded.TheVariants as bounded
+use Rattle.pa_refine.specs.declared.fault.RefineFault.{RefineFault}
+use Rattle.pa_refine.specs.declared.fault.RefineFault.TheVariants as refining
+use Rattle.pa_refine.specs.declared.fault.BoundFault.{BoundFault}
+use Rattle.pa_refine.specs.declared.fault.BoundFault.TheVariants as bounding
+use Rattle.pa_refine.specs.Refining.{refined_of}
+use Rattle.pa_refine.specs.Bounding.{bounded_of}
+use Rattle.pa_refine.specs.Meant.{at_ports as located_at}
 
 -- what a merge tells; want of memory is no answer
 abbrev pub merge_answer : Result Contract MergeFault → LineAnswer
@@ -46,20 +63,78 @@ abbrev pub test_answer : Contract → List Name → Point → LineAnswer
 test_answer c names at =
     given (words_answer (tested c (at_ports c names at))) (first_missing (ports c) names) (λ name. AnsweredBy (Refused (UnknownPort name)))
 
+-- a problem that takes more pivots than the limit
+abbrev pub limited : Place → LineAnswer
+limited place = AnsweredBy (PivotLimit place.task place.sub)
+
+-- ---- refinements
+-- the row that a point breaks
+abbrev pub broken_answer : Broken → Located → LineAnswer
+broken_answer (Assumption row) at = AnsweredBy (NoAssumption row at)
+broken_answer (Guarantee row) at = AnsweredBy (NoGuarantee row at)
+
+abbrev pub refined_answer : Contract → Refined → LineAnswer
+refined_answer c (refined.Yes assumptions guarantees) = AnsweredBy (Yes assumptions guarantees)
+refined_answer c (refined.No of x) = broken_answer of (located_at c x)
+
+-- what a refinement tells
+abbrev pub refine_answer : Contract → Result Refined RefineFault → LineAnswer
+refine_answer c (Ok r) = refined_answer c r
+refine_answer c (Err refining.PortsDiffer) = AnsweredBy (Refused PortsDiffer)
+refine_answer c (Err (refining.Load count)) = AnsweredBy (Refused (Rows count))
+refine_answer c (Err (refining.PivotLimit place)) = limited place
+refine_answer c (Err (refining.Wide place)) = AnsweredBy (TooWide place)
+refine_answer c (Err refining.Memory) = Set
+
+-- ---- bounds
+-- a heading with one more name and its number, where that is not 0
+abbrev pub with_number : Heading → Name → ℤ → Heading
+with_number h n d = if int_eq d (pos 0) then h else record { names = h.names ++ n ∷ []; numbers = h.numbers ++ d ∷ [] }
+
+-- a heading with the numbers of these names
+abbrev pub with_numbers : Heading → List Name → List ℤ → Heading
+with_numbers h [] ds = h
+with_numbers h (n ∷ ns) [] = h
+with_numbers h (n ∷ ns) (d ∷ ds) = with_numbers (with_number h n d) ns ds
+
+-- a direction over names, by those whose number is not 0
+abbrev pub heading_of : List Name → List ℤ → Heading
+heading_of names d = with_numbers (record { names = []; numbers = [] }) names d
+
+-- a direction has a number for each column
+abbrev pub HasColumns : ℕ → Bounded → Type 0
+HasColumns columns (bounded.Unbounded x d) = length d ≡ columns
+HasColumns columns b = Unit {0}
+
+abbrev pub bounded_answer : Contract → Bounded → LineAnswer
+bounded_answer c (bounded.Value num den w x) = AnsweredBy (Value num den w (located_at c x))
+bounded_answer c (bounded.Unbounded x d) = AnsweredBy (Unbounded (located_at c x) (heading_of (ports c) d))
+bounded_answer c (bounded.Nothing w) = AnsweredBy (Nothing w)
+
+-- what a bound tells
+abbrev pub bound_answer : Contract → Result Bounded BoundFault → LineAnswer
+bound_answer c (Ok b) = bounded_answer c b
+bound_answer c (Err (bounding.UnknownPort name)) = AnsweredBy (Refused (UnknownPort name))
+bound_answer c (Err (bounding.Load count)) = AnsweredBy (Refused (Rows count))
+bound_answer c (Err (bounding.PivotLimit place)) = limited place
+bound_answer c (Err (bounding.Wide place)) = AnsweredBy (TooWide place)
+bound_answer c (Err bounding.Memory) = Set
+
+-- ---- any line
 -- what an operation gives on the contracts that it names
-abbrev pub answer_on : Op → List Contract → LineAnswer
-answer_on (Merge result left right) (a ∷ b ∷ []) = merge_answer (merge_of a b)
-answer_on (Test of names at) (c ∷ []) = test_answer c names at
-answer_on op contracts = Set
+abbrev pub answer_on : Table → Op → List Contract → LineAnswer
+answer_on table (Merge result left right) (a ∷ b ∷ []) = merge_answer (merge_of a b)
+answer_on table (Test of names at) (c ∷ []) = test_answer c names at
+answer_on table (Refine left right) (a ∷ b ∷ []) = refine_answer a (refined_of a b table.limits.pivots)
+answer_on table (Bound of least goal) (c ∷ []) = bound_answer c (bounded_of c goal least table.limits.pivots)
+answer_on table op contracts = Set
 
--- the answer to an operation: a contract that is not there, then a result's name that is not free, then what the operation gives
-abbrev pub answer_to : List Named → Op → LineAnswer
-answer_to contracts op =
-    given (given (given Set (contracts_named contracts (operands op)) (answer_on op)) (taken contracts op) Taken) (unknown contracts op) Unknown
-
--- the answer to an operation over a table
+-- the answer to an operation over a table: a contract that is not there, then a result's name that is not free, then what the
+-- operation gives
 abbrev pub answer_of : Table → Op → LineAnswer
-answer_of table op = answer_to table.contracts op
+answer_of table op = given
+    (given (given Set (contracts_named table.contracts (operands op)) (answer_on table op)) (taken table.contracts op) Taken)
+    (unknown table.contracts op) Unknown
 
 -- a line with its answer
 abbrev pub answered : Table → ScriptLine → Answered

@@ -1,34 +1,27 @@
 // The answer to a script line.
-ghost use Rattle.std.specs.Prelude.{◌≡◌, IfOk, true, not, length};
-ghost use Rattle.std.specs.Option.{option_copied};
+ghost use Rattle.std.specs.Prelude.{◌≡◌, IfOk, true, length};
 ghost use Rattle.pa_meaning.specs.Contracts.{ports};
-ghost use Rattle.pa_meaning.specs.Composition.{is_among};
 ghost use Rattle.pa_contract.specs.Merge.{merge_of};
 ghost use Rattle.pa_contract.specs.Testing.{tested};
 ghost use Rattle.pa_script.specs.Ops.{IsWellFormedOp};
 ghost use Rattle.pa_cert.specs.Tables.{CanAdvance};
-ghost use Rattle.pa_holds.specs.Refusals.{first_missing};
 ghost use Rattle.pa_holds.specs.Tables.{IsTrueOf};
 ghost use Rattle.pa_answers.specs.Answers as spec;
 ghost use Rattle.pa_answers.specs.Answers.{AreFormed};
 ghost use Rattle.pa_answers.specs.Built.{is_built};
 
+use crate::bounding::bounded;
 use crate::point::at_ports;
+use crate::refining::refined;
+use crate::told::{refused, taken, too_wide, unknown, unknown_port};
 use pa_cert::{Answer, LineAnswer, NameRefusal, Table};
 use pa_contract::{Contract, MergeFault, TestFault, merge, test};
+use pa_grammar::Linear;
 use pa_names::{Name, Names};
+use pa_refine::first_missing_port;
 use pa_row::Point;
 use pa_script::{Op, ScriptLine};
 use std::alloc::{AllocError, Global};
-
-// A refusal by names, ports or counts.
-fn refused(refusal: NameRefusal) -> LineAnswer
-    ensures { result ≡ LineAnswer.Answered (Answer.Refused refusal) }
-{
-    LineAnswer::Answered {
-        answer: Answer::Refused { refusal },
-    }
-}
 
 // The merge of two contracts, or its refusal.
 fn merged(alloc: Global, a: &Contract, b: &Contract) -> Result<LineAnswer, AllocError>
@@ -42,26 +35,6 @@ fn merged(alloc: Global, a: &Contract, b: &Contract) -> Result<LineAnswer, Alloc
         Err(MergeFault::PortClash { name }) => Ok(refused(NameRefusal::PortClash { name })),
         Err(MergeFault::VariableLimit { count }) => Ok(refused(NameRefusal::Variables { count })),
         Err(MergeFault::Load { count }) => Ok(refused(NameRefusal::Rows { count })),
-    }
-}
-
-// The answer that no contract has the name.
-fn unknown(alloc: Global, name: &Name) -> Result<LineAnswer, AllocError>
-    ensures { IfOk result (λ answer. answer ≡ LineAnswer.Unknown name.now) }
-{
-    match name.copy(alloc) {
-        Ok(name) => Ok(LineAnswer::Unknown { name }),
-        Err(_) => Err(AllocError),
-    }
-}
-
-// The answer that a contract has the name of the result.
-fn taken(alloc: Global, name: &Name) -> Result<LineAnswer, AllocError>
-    ensures { IfOk result (λ answer. answer ≡ LineAnswer.Taken name.now) }
-{
-    match name.copy(alloc) {
-        Ok(name) => Ok(LineAnswer::Taken { name }),
-        Err(_) => Err(AllocError),
     }
 }
 
@@ -88,37 +61,6 @@ fn merge_line(
     merged(alloc, a, b)
 }
 
-// Whether a name is no port.
-#[tactic(auto, using(crate::proofs::Ports::no_place))]
-fn is_missing(contract: &Contract, name: &Name) -> bool
-    ensures { result ≡ not (is_among (ports contract.now) name.now) }
-{
-    contract.column(name).is_none()
-}
-
-// The first of the names that is no port.
-fn first_missing_port<'a>(contract: &Contract, names: &'a Names) -> Option<&'a Name>
-    ensures { option_copied result ≡ first_missing (ports contract.now) names.now }
-{
-    for place in 0..names.len() {
-        let name = names.at(place);
-        if is_missing(contract, name) {
-            return Some(name);
-        }
-    }
-    None
-}
-
-// The answer that a name is no port.
-fn unknown_port(alloc: Global, name: &Name) -> Result<LineAnswer, AllocError>
-    ensures { IfOk result (λ answer. answer ≡ LineAnswer.Answered (Answer.Refused (NameRefusal.UnknownPort name.now))) }
-{
-    match name.copy(alloc) {
-        Ok(name) => Ok(refused(NameRefusal::UnknownPort { name })),
-        Err(_) => Err(AllocError),
-    }
-}
-
 // What a contract is at a point over its ports.
 fn tested_at(alloc: Global, contract: &Contract, at: &Point) -> Result<LineAnswer, AllocError>
     requires { length at.now.p ≡ length (ports contract.now) }
@@ -129,9 +71,7 @@ fn tested_at(alloc: Global, contract: &Contract, at: &Point) -> Result<LineAnswe
             answer: Answer::TestedAs { tested },
         }),
         Err(TestFault::Memory) => Err(AllocError),
-        Err(TestFault::Wide(place)) => Ok(LineAnswer::Answered {
-            answer: Answer::TooWide { place },
-        }),
+        Err(TestFault::Wide(place)) => Ok(too_wide(place)),
     }
 }
 
@@ -180,6 +120,42 @@ fn test_line(
     }
 }
 
+// The answer to a refinement.
+#[tactic(auto, using(crate::proofs::Truths::refine_given))]
+fn refine_line(
+    alloc: Global,
+    table: &Table,
+    first: &Name,
+    second: &Name,
+) -> Result<LineAnswer, AllocError>
+    ensures { IfOk result (λ answer. answer ≡ spec.answer_of table.now (Op.Refine first.now second.now)) }
+{
+    let Some(a) = table.find(first) else {
+        return unknown(alloc, first);
+    };
+    let Some(b) = table.find(second) else {
+        return unknown(alloc, second);
+    };
+    refined(alloc, a, b, table.limits())
+}
+
+// The answer to a bound.
+#[tactic(auto, using(crate::proofs::Truths::bound_given))]
+fn bound_line(
+    alloc: Global,
+    table: &Table,
+    of: &Name,
+    least: bool,
+    goal: &Linear,
+) -> Result<LineAnswer, AllocError>
+    ensures { IfOk result (λ answer. answer ≡ spec.answer_of table.now (Op.Bound of.now least goal.now)) }
+{
+    match table.find(of) {
+        Some(contract) => bounded(alloc, contract, goal, least, table.limits()),
+        None => unknown(alloc, of),
+    }
+}
+
 // The answer to the line's operation.
 fn answer_op(alloc: Global, table: &Table, op: &Op) -> Result<LineAnswer, AllocError>
     requires { is_built op.now ≡ true }
@@ -193,11 +169,9 @@ fn answer_op(alloc: Global, table: &Table, op: &Op) -> Result<LineAnswer, AllocE
             right,
         } => merge_line(alloc, table, result, left, right),
         Op::Test { of, names, at } => test_line(alloc, table, of, names, at),
-        Op::Refine { .. }
-        | Op::Bound { .. }
-        | Op::Hide { .. }
-        | Op::Compose { .. }
-        | Op::Quotient { .. } => unreachable!(),
+        Op::Refine { left, right } => refine_line(alloc, table, left, right),
+        Op::Bound { of, least, goal } => bound_line(alloc, table, of, *least, goal),
+        Op::Hide { .. } | Op::Compose { .. } | Op::Quotient { .. } => unreachable!(),
     }
 }
 

@@ -4,16 +4,17 @@ ghost use Rattle.pa_answers.specs.Built as spec;
 
 use pa_script::Op;
 
-/// Whether the operation is built so far: limits, merges and tests are.
+/// Whether the operation is built so far: limits, merges, tests, refinements and bounds are.
 pub fn is_built(op: &Op) -> bool
     ensures { result ≡ spec.is_built op.now }
 {
     match op {
-        Op::LimitRows { .. } | Op::LimitPivots { .. } | Op::Merge { .. } | Op::Test { .. } => true,
-        Op::Refine { .. }
-        | Op::Bound { .. }
-        | Op::Hide { .. }
-        | Op::Compose { .. }
-        | Op::Quotient { .. } => false,
+        Op::LimitRows { .. }
+        | Op::LimitPivots { .. }
+        | Op::Merge { .. }
+        | Op::Test { .. }
+        | Op::Refine { .. }
+        | Op::Bound { .. } => true,
+        Op::Hide { .. } | Op::Compose { .. } | Op::Quotient { .. } => false,
     }
 }

@@ -1,6 +1,6 @@
 use Rattle.std.proofs.Common.{◌≡◌, sym, ap, ◌∙◌, subst, IfOk}
 use Rattle.std.specs.Option.{option_copied}
-use Rattle.pa_answers.proofs.Truths.{test_known}
+use Rattle.pa_answers.proofs.Questions.{test_known}
 use Rattle.pa_answers.proofs.answer.test_of.Goals as goal
 
 pub returns : goal.returns
