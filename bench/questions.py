@@ -6,7 +6,7 @@
 - Wide refinements: 256 and 1,024 rows over 32 names, five of them in a row, put together by merges, and 4 rows that follow.
 - Bounds: 16, 32 and 64 amounts of which each is at least 0, and half as many resources, and the best use of them.
 
-Times are milliseconds of processor time, user and system, each the least of RUNS runs (9 where the environment does not say).
+Times are milliseconds of processor time, user and system, each the least of RUNS runs (3 where the environment does not say).
 WORD .. is another program that is given the same two files: it is run in turn with the first, and `ratio` is the first one's time
 over its own. The numbers are drawn by a generator with a fixed seed. It fails where a run of the first program ends with another
 status than 0, or where an answer is not of the kind that is due.
@@ -19,7 +19,7 @@ import subprocess
 import sys
 import tempfile
 
-RUNS = int(os.environ.get("RUNS", "9"))
+RUNS = int(os.environ.get("RUNS", "3"))
 
 
 def text_of(row):
