@@ -6,3 +6,4 @@ pub mod Filters
 pub mod FilterTurns
 pub mod Placed
 pub mod Defined
+pub mod Thinned

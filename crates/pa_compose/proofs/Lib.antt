@@ -1,0 +1,4 @@
+mod Places
+pub mod Columns
+pub mod Meant
+pub mod Defined

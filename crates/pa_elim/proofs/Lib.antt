@@ -1,0 +1,4 @@
+pub mod InTurn
+pub mod Steps
+pub mod Meant
+pub mod Defined
