@@ -1,17 +1,14 @@
--- What a merge, a test, a refinement, a bound and a hiding tell is true, and which refusal is due where they refuse.
-use Rattle.std.proofs.Common.{◌≡◌, refl, sym, subst, ap, ◌∙◌, ◌⊎◌, ◌+◌, ◌<◌, ◌≤◌, ℕ, zero, suc, Bool, true, false, cond, List, [], ◌++◌, length, inl, inr}
+-- What a merge, a test, a refinement and a bound tell is true, and which refusal is due where they refuse.
+use Rattle.std.proofs.Common.{◌≡◌, refl, sym, subst, ap, ◌∙◌, ◌+◌, ◌<◌, ℕ, Bool, true, false, cond, List, ◌++◌, length, inl, inr}
 use Rattle.std.proofs.Common.{Option, Some, None, Result, Ok, Err, IfOk, arith}
 use Rattle.std.specs.Prelude.{IsErrOf, position}
-use Rattle.std.proofs.lemmas.List.Elements.{All-nil, All-cons}
 use Rattle.pa_math.specs.Answers.{IsAnswer, given}
 use Rattle.pa_meaning.specs.Rows.{Point}
 use Rattle.pa_meaning.specs.Merge.{IsMerge}
 use Rattle.pa_meaning.specs.Contracts.{Name, Contract, ports}
 use Rattle.pa_meaning.specs.Bounds.{Goal}
 use Rattle.pa_witness.specs.Steps.{Two}
-use Rattle.pa_row.specs.declared.place.Group.{Group}
-use Rattle.pa_row.specs.declared.place.Group.TheVariants as group
-use Rattle.pa_row.specs.declared.place.Task.TheVariants.{Cover, Filter}
+use Rattle.pa_row.specs.declared.place.Task.TheVariants.{Cover}
 use Rattle.pa_row.specs.declared.place.Task.TheVariants as task
 use Rattle.pa_row.specs.declared.place.Sub.{Sub}
 use Rattle.pa_row.specs.declared.place.Sub.TheVariants.{Main, Base}
@@ -30,12 +27,11 @@ use Rattle.pa_contract.proofs.Meets.{merged_is_merge}
 use Rattle.pa_contract.proofs.Words.{tested_is_tested}
 use Rattle.pa_script.specs.Ops.{IsPointOf, IsGoal}
 use Rattle.pa_cert.specs.Tables.{Limits}
-use Rattle.pa_cert.specs.Lists.{HiddenAnswer}
-use Rattle.pa_cert.specs.declared.answer.Answer.TheVariants.{Yes, NoAssumption, NoGuarantee, Hidden}
+use Rattle.pa_cert.specs.declared.answer.Answer.TheVariants.{Yes, NoAssumption, NoGuarantee}
 use Rattle.pa_cert.specs.declared.answer.LineAnswer.{LineAnswer}
 use Rattle.pa_cert.specs.declared.answer.LineAnswer.TheVariants.{Answered as AnsweredBy}
-use Rattle.pa_holds.specs.Limits.{HasSpot, HasProblem, SpotFits, PlaceFits, PivotsFit, StepRowFits, TaskFits}
-use Rattle.pa_holds.specs.Questions.{Question, Merging, Testing, Refining, Bounding, Hiding}
+use Rattle.pa_holds.specs.Limits.{HasSpot, HasProblem, SpotFits, PlaceFits, PivotsFit, TaskFits}
+use Rattle.pa_holds.specs.Questions.{Question, Merging, Testing, Refining, Bounding}
 use Rattle.pa_holds.specs.Answers.{IsTrueAnswer}
 use Rattle.pa_holds.specs.Refusals.{first_missing, due_refine, due_bound}
 use Rattle.pa_holds.proofs.Refusals.{merge_clear, merge_computed, bound_among}
@@ -54,18 +50,9 @@ use Rattle.pa_refine.specs.Meant.{HoldsAsRefined, HoldsAsBounded, IsTrueOfBoundi
 use Rattle.pa_refine.specs.Refining.{refined_of}
 use Rattle.pa_refine.specs.Bounding.{bounded_of}
 use Rattle.pa_answers.specs.Answers.{HasColumns, merge_answer, words_answer, test_answer, at_ports, refine_answer, refined_answer, bound_answer, bounded_answer}
-use Rattle.pa_answers.specs.Answers.{hide_answer}
 use Rattle.pa_farkas.proofs.Defined.{IsSolved}
 use Rattle.pa_refine.proofs.Defined.{RefineTells, refine_tells, BoundTells, bound_tells}
 use Rattle.pa_refine.proofs.Meant.{bounded_true}
-use Rattle.pa_holds.proofs.Stays.{GivesFormed}
-use Rattle.pa_holds.proofs.WellFormed.{printed_is_well_formed}
-use Rattle.pa_farkas.proofs.Thinned.{IsCleanPlace, IsFilterPlace}
-use Rattle.pa_elim.proofs.Defined.{IsPairsPlace, IsStepRow}
-use Rattle.pa_compose.specs.declared.fault.HideFault.{HideFault}
-use Rattle.pa_compose.specs.declared.fault.HideFault.TheVariants as hiding
-use Rattle.pa_compose.specs.Hiding.{hidden_names, hidden_of}
-use Rattle.pa_compose.proofs.Defined.{HideTells, hide_tells}
 
 -- the question is answered, and the answer is true
 abbrev pub IsTrueTo : Question → LineAnswer → Type 0
@@ -134,18 +121,6 @@ spot_fits spot.Load = tt
 spot_fits (spot.Pivot pivot row column) = omega (arith)
 spot_fits spot.Read = tt
 spot_fits spot.Check = tt
-
-filter_spot : (g : Group) (row : ℕ) (s : Spot) → IsSolved s → HasSpot (Filter g row) s
-filter_spot g row spot.Load h = h
-filter_spot g row (spot.Pivot pivot line column) h = tt
-filter_spot g row spot.Read h = tt
-filter_spot g row spot.Check h = tt
-
-filter_pivot : {rows : ℕ} (s : Spot) → SpotFits (record { rows = rows; pivots = (limits_of s).pivots }) s
-filter_pivot spot.Load = tt
-filter_pivot (spot.Pivot pivot row column) = omega (arith)
-filter_pivot spot.Read = tt
-filter_pivot spot.Check = tt
 
 module _ (row : ℕ) where
   cover_problem : (s : Sub) → HasProblem (Cover row) s
@@ -249,76 +224,6 @@ module _ (c : Contract) (goal : Goal) (least : Bool) (formed : IsWellFormed c) (
   pub bound_true : (most : ℕ) → IsTrueTo (Bounding c goal least) (bound_answer c (bounded_of c goal least most))
   bound_true most = bound_by (bounded_of c goal least most) (bound_tells c goal least formed is_goal.positive most)
 
--- ---- hidings
-module _ (c : Contract) (names : List Name) (w : IsWellFormed c) (rows pivots : ℕ) (small : rows ≤ 4096) where
-  abbrev limits : ℕ → Limits
-  limits most = record { rows = rows; pivots = most }
-
-  gone : ℕ
-  gone = length (hidden_names c names)
-
-  -- the row fits, in a clean, a filter and a sum of a step
-  row_fits : (most step row : ℕ) → IsStepRow rows (length c.guarantees) gone step row → StepRowFits (limits most) gone (length c.guarantees) step row
-  row_fits most zero row h = h
-  row_fits most (suc step) row h = h
-
-  hide_pivots : (p : Place) (step row : ℕ) → IsStepRow rows (length c.guarantees) gone step row → p.task ≡ Filter (group.Step step) row → p.sub ≡ Main
-      → (most : Limits) × PivotsFit most (Hiding c names) p.task p.sub
-  hide_pivots p step row fits is main = (
-    limits 0,
-    subst (λ t. PivotsFit (limits 0) (Hiding c names) t p.sub) (sym is)
-        (record { task_fits = row_fits 0 step row fits; solves = tt; problem = subst (HasProblem (Filter (group.Step step) row)) (sym main) tt }),
-  )
-
-  pairs_fit : (step row : ℕ) → IsStepRow rows (length c.guarantees) gone step row → (p : Place) → IsPairsPlace step row p
-      → PlaceFits (limits 0) (Hiding c names) p
-  pairs_fit zero row fits p is = absurd is
-  pairs_fit (suc step) row fits p is =
-      subst (PlaceFits (limits 0) (Hiding c names)) (sym is) (record { task = fits; problem = tt; spot = tt; pivot = tt })
-
-  hide_place : (p : Place) (step row : ℕ) → IsStepRow rows (length c.guarantees) gone step row
-      → IsCleanPlace (group.Step step) row p ⊎ IsFilterPlace (group.Step step) row p ⊎ IsPairsPlace step row p
-      → (most : Limits) × PlaceFits most (Hiding c names) p
-  hide_place p step row fits (inl is) = (
-    limits 0,
-    subst (PlaceFits (limits 0) (Hiding c names)) (sym is) (record { task = row_fits 0 step row fits; problem = tt; spot = tt; pivot = tt }),
-  )
-  hide_place p step row fits (inr (inl (is, main, solved))) = (
-    limits (limits_of p.spot).pivots,
-    record {
-      task = subst (TaskFits (limits (limits_of p.spot).pivots) (Hiding c names)) (sym is) (row_fits (limits_of p.spot).pivots step row fits);
-      problem = subst (λ t. HasProblem t p.sub) (sym is) (subst (HasProblem (Filter (group.Step step) row)) (sym main) tt);
-      spot = subst (λ t. HasSpot t p.spot) (sym is) (filter_spot (group.Step step) row p.spot solved);
-      pivot = filter_pivot p.spot;
-    },
-  )
-  hide_place p step row fits (inr (inr is)) = (limits 0, pairs_fit step row fits p is)
-
-  hide_by : (r : Result HiddenAnswer HideFault) → HideTells rows c names r → IsTrueTo (Hiding c names) (hide_answer r)
-  hide_by (Ok a) (none, h) = printed_is_true Two (limits pivots) (Hiding c names) (Hidden a) w.distinct (none, h)
-  hide_by (Err hiding.Memory) h = absurd h
-  hide_by (Err (hiding.NotOutput name)) h = h
-  hide_by (Err (hiding.Load count)) h = h
-  hide_by (Err (hiding.RowLimit step count)) (none, h) = (none, (rows, h))
-  hide_by (Err (hiding.PivotLimit p)) (none, (step, row, fits, is, main)) = (none, hide_pivots p step row fits is main)
-  hide_by (Err (hiding.Wide p)) (none, (step, row, fits, at)) = (none, hide_place p step row fits at)
-
-  pub hide_true : IsTrueTo (Hiding c names) (hide_answer (hidden_of c names rows pivots))
-  hide_true = hide_by (hidden_of c names rows pivots) (hide_tells rows pivots c names small w)
-
-  formed_by : (r : Result HiddenAnswer HideFault) → HideTells rows c names r → GivesFormed (hide_answer r)
-  formed_by (Ok a) h =
-      printed_is_well_formed Two (limits pivots) (Hiding c names) (Hidden a) a.contract small (All-cons IsWellFormed c [] w (All-nil IsWellFormed)) h refl
-  formed_by (Err hiding.Memory) h = tt
-  formed_by (Err (hiding.NotOutput name)) h = tt
-  formed_by (Err (hiding.Load count)) h = tt
-  formed_by (Err (hiding.RowLimit step count)) h = tt
-  formed_by (Err (hiding.PivotLimit p)) h = tt
-  formed_by (Err (hiding.Wide p)) h = tt
-
-  pub hide_formed : GivesFormed (hide_answer (hidden_of c names rows pivots))
-  hide_formed = formed_by (hidden_of c names rows pivots) (hide_tells rows pivots c names small w)
-
 -- ---- of a call's result
 -- the answer that is due, where it is settled
 due_is : {A F : Type 0} (memory : F) (due r : Result A F) → IsAnswer memory due r → ¬ IsErrOf r memory → due ≡ r
@@ -346,9 +251,3 @@ bound_columns c goal least (Ok (bounded.Value num den w x)) h = tt
 bound_columns c goal least (Ok (bounded.Unbounded x d)) h = h.columns
 bound_columns c goal least (Ok (bounded.Nothing w)) h = tt
 bound_columns c goal least (Err e) h = tt
-
-pub hide_answered : {E : Type 0} (c : Contract) (names : List Name) (rows pivots : ℕ) (r : Result HiddenAnswer HideFault)
-    → IsAnswer hiding.Memory (hidden_of c names rows pivots) r → (t : Result LineAnswer E) → IfOk t (λ x. x ≡ hide_answer r)
-    → IfOk t (λ _. ¬ IsErrOf r hiding.Memory) → IfOk t (λ x. x ≡ hide_answer (hidden_of c names rows pivots))
-hide_answered c names rows pivots r h (Ok x) is settled = is ∙ ap hide_answer (sym (due_is hiding.Memory (hidden_of c names rows pivots) r h settled))
-hide_answered c names rows pivots r h (Err e) is settled = tt

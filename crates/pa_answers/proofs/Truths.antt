@@ -3,13 +3,12 @@
 use Rattle.std.proofs.Common.{◌≡◌, List, [], ◌∷◌, refl, sym, ap, ap₂, subst, Option, Some, None, Result, Ok, Err}
 use Rattle.std.proofs.Common.{Bool, true, false, cond, All, IfOk, option_map}
 use Rattle.std.specs.Prelude.{option_and_then, is_some, IfSome}
-use Rattle.std.proofs.lemmas.List.Elements.{All-cons, All-head, All-nil, All-tail}
+use Rattle.std.proofs.lemmas.List.Elements.{All-head, All-tail}
 use Rattle.pa_math.specs.Answers.{given}
 use Rattle.pa_meaning.specs.Rows.{Point}
 use Rattle.pa_meaning.specs.Bounds.{Goal}
 use Rattle.pa_meaning.specs.Contracts.{Name, Contract, ports}
 use Rattle.pa_row.specs.declared.step.Broken.TheVariants.{Assumption, Guarantee}
-use Rattle.pa_row.specs.Steps.{IsLimit}
 use Rattle.pa_contract.specs.Merge.{merge_of}
 use Rattle.pa_contract.specs.Testing.{Tested, tested}
 use Rattle.pa_contract.specs.Named.{contract_named, contracts_named}
@@ -26,14 +25,14 @@ use Rattle.pa_cert.specs.declared.refusal.NameRefusal.TheVariants.{UnknownPort, 
 use Rattle.pa_cert.specs.declared.answer.Answer.TheVariants.{Merged, TestedAs, Refused, TooWide}
 use Rattle.pa_cert.specs.declared.answer.LineAnswer.{LineAnswer}
 use Rattle.pa_cert.specs.declared.answer.LineAnswer.TheVariants.{Set, Unknown, Taken, Answered as AnsweredBy}
-use Rattle.pa_cert.specs.Tables.{Table, contract_of, IsFree, CanAdvance, advanced, with_answer, with_limit}
+use Rattle.pa_cert.specs.Tables.{Table, contract_of, IsFree, CanAdvance}
 use Rattle.pa_holds.specs.Refusals.{first_missing}
-use Rattle.pa_holds.specs.Questions.{Merging, Testing, Refining, Bounding, Hiding}
+use Rattle.pa_holds.specs.Questions.{Merging, Testing, Refining, Bounding}
 use Rattle.pa_holds.specs.Tables.{unknown, taken, IsTrueOf, AreTrue}
 use Rattle.pa_holds.proofs.Tables.{OfSome, one_has}
 use Rattle.pa_holds.proofs.Lookups.{merge_known, merge_lacks_left, merge_lacks_right, merge_is_free, merge_is_taken, merge_line_is_true, merge_taken_is_true}
 use Rattle.pa_holds.proofs.Lookups.{test_lacks, test_line_is_true}
-use Rattle.pa_holds.proofs.Stays.{GivesFormed, merge_formed, table_stays}
+use Rattle.pa_holds.proofs.Stays.{IsMergeAtMost, true_table_stays}
 use Rattle.pa_refine.specs.declared.answer.Refined.{Refined}
 use Rattle.pa_refine.specs.declared.answer.Refined.TheVariants as refined
 use Rattle.pa_refine.specs.declared.answer.Bounded.{Bounded}
@@ -44,15 +43,14 @@ use Rattle.pa_refine.specs.declared.fault.BoundFault.{BoundFault}
 use Rattle.pa_refine.specs.declared.fault.BoundFault.TheVariants as bounding
 use Rattle.pa_refine.specs.Refining.{refined_of}
 use Rattle.pa_refine.specs.Bounding.{bounded_of}
-use Rattle.pa_compose.specs.Hiding.{hidden_of}
 use Rattle.pa_answers.specs.Built.{is_built}
-use Rattle.pa_answers.specs.Answers.{merge_answer, words_answer, test_answer, refine_answer, bound_answer, hide_answer, at_ports, answer_on, answer_of}
+use Rattle.pa_answers.specs.Answers.{merge_answer, words_answer, test_answer, refine_answer, bound_answer, at_ports, answer_on, answer_of}
 use Rattle.pa_answers.specs.Answers.{answers_from, past, AreFormed}
-use Rattle.pa_answers.proofs.Questions.{IsTrueTo, merge_true, test_true, refine_true, bound_true, hide_true, hide_formed}
+use Rattle.pa_answers.proofs.Questions.{IsTrueTo, merge_true, test_true, refine_true, bound_true}
 
--- an answer that is true, and whose contract, if it has one, is well formed
+-- an answer that is true, and that has a contract only where it is a merge
 abbrev IsGood : Table → Op → LineAnswer → Type 0
-IsGood table op answer = IsTrueOf table op answer × GivesFormed answer
+IsGood table op answer = IsTrueOf table op answer × IsMergeAtMost answer
 
 -- ---- the answer by what is due first
 answer_unknown : (table : Table) (op : Op) (name : Name) → unknown table.contracts op ≡ Some name → answer_of table op ≡ Unknown name
@@ -85,12 +83,7 @@ pub bound_given : (table : Table) (of : Name) (least : Bool) (goal : Goal) (c : 
     → answer_of table (Bound of least goal) ≡ bound_answer c (bounded_of c goal least table.limits.pivots)
 bound_given table of least goal c h = rw h refl
 
-pub hide_given : (table : Table) (result of : Name) (names : List Name) (c : Contract) → contract_named table.contracts of ≡ Some c
-    → is_some (contract_named table.contracts result) ≡ false
-    → answer_of table (Hide result of names) ≡ hide_answer (hidden_of c names table.limits.rows table.limits.pivots)
-hide_given table result of names c h free = rw (h, free) refl
-
-module _ (table : Table) (formed : AreFormed table) (limited : IsLimit table.limits.rows) where
+module _ (table : Table) (formed : AreFormed table) where
   found_formed : (name : Name) (c : Contract) → contract_named table.contracts name ≡ Some c → IsWellFormed c
   found_formed name c is = subst (OfSome IsWellFormed) is (one_has IsWellFormed table.contracts name formed)
 
@@ -102,14 +95,11 @@ module _ (table : Table) (formed : AreFormed table) (limited : IsLimit table.lim
       by (merge_of a b) (merge_true a b (found_formed left a h) (found_formed right b k) (merge_of a b) refl)
     where
       by : (r : Result Contract MergeFault) → IsTrueTo (Merging a b) (merge_answer r) → IsGood table (Merge result left right) (merge_answer r)
-      by (Ok m) t = (merge_line_is_true table result left right a b (Merged m) h k free t, merge_formed (Merging a b) m both t)
+      by (Ok m) t = (merge_line_is_true table result left right a b (Merged m) h k free t, tt)
       by (Err (merging.PortClash name)) t = (merge_line_is_true table result left right a b (Refused (PortClash name)) h k free t, tt)
       by (Err (merging.VariableLimit count)) t = (merge_line_is_true table result left right a b (Refused (Variables count)) h k free t, tt)
       by (Err (merging.Load count)) t = (merge_line_is_true table result left right a b (Refused (Rows count)) h k free t, tt)
       by (Err merging.Memory) t = absurd t
-
-      both : All IsWellFormed (a ∷ b ∷ [])
-      both = All-cons IsWellFormed a (b ∷ []) (found_formed left a h) (All-cons IsWellFormed b [] (found_formed right b k) (All-nil IsWellFormed))
 
   -- by what stands under the three names
   merge_at : (result left right : Name) (x y z : Option Contract) → contract_named table.contracts left ≡ x → contract_named table.contracts right ≡ y
@@ -169,15 +159,15 @@ module _ (table : Table) (formed : AreFormed table) (limited : IsLimit table.lim
   refine_line left right a b h k (Taken name) t = absurd t
 
   -- no answer of it has a contract
-  refine_formed : (c : Contract) (r : Result Refined RefineFault) → GivesFormed (refine_answer c r)
-  refine_formed c (Ok (refined.Yes assumptions guarantees)) = tt
-  refine_formed c (Ok (refined.No (Assumption row) x)) = tt
-  refine_formed c (Ok (refined.No (Guarantee row) x)) = tt
-  refine_formed c (Err refining.Memory) = tt
-  refine_formed c (Err refining.PortsDiffer) = tt
-  refine_formed c (Err (refining.Load count)) = tt
-  refine_formed c (Err (refining.PivotLimit place)) = tt
-  refine_formed c (Err (refining.Wide place)) = tt
+  refine_merges : (c : Contract) (r : Result Refined RefineFault) → IsMergeAtMost (refine_answer c r)
+  refine_merges c (Ok (refined.Yes assumptions guarantees)) = tt
+  refine_merges c (Ok (refined.No (Assumption row) x)) = tt
+  refine_merges c (Ok (refined.No (Guarantee row) x)) = tt
+  refine_merges c (Err refining.Memory) = tt
+  refine_merges c (Err refining.PortsDiffer) = tt
+  refine_merges c (Err (refining.Load count)) = tt
+  refine_merges c (Err (refining.PivotLimit place)) = tt
+  refine_merges c (Err (refining.Wide place)) = tt
 
   refine_at : (left right : Name) (x y : Option Contract) → contract_named table.contracts left ≡ x → contract_named table.contracts right ≡ y
       → IsGood table (Refine left right) (answer_of table (Refine left right))
@@ -195,7 +185,7 @@ module _ (table : Table) (formed : AreFormed table) (limited : IsLimit table.lim
       subst (IsGood table op) (sym (refine_given table left right a b h k)) (
         refine_line left right a b h k (refine_answer a (refined_of a b most))
             (refine_true a b (found_formed left a h) (found_formed right b k) most),
-        refine_formed a (refined_of a b most),
+        refine_merges a (refined_of a b most),
       )
 
   -- ---- bounds
@@ -206,15 +196,15 @@ module _ (table : Table) (formed : AreFormed table) (limited : IsLimit table.lim
   bound_line of least goal c h (Unknown name) t = absurd t
   bound_line of least goal c h (Taken name) t = absurd t
 
-  bound_formed : (c : Contract) (r : Result Bounded BoundFault) → GivesFormed (bound_answer c r)
-  bound_formed c (Ok (bounded.Value num den w x)) = tt
-  bound_formed c (Ok (bounded.Unbounded x d)) = tt
-  bound_formed c (Ok (bounded.Nothing w)) = tt
-  bound_formed c (Err bounding.Memory) = tt
-  bound_formed c (Err (bounding.UnknownPort name)) = tt
-  bound_formed c (Err (bounding.Load count)) = tt
-  bound_formed c (Err (bounding.PivotLimit place)) = tt
-  bound_formed c (Err (bounding.Wide place)) = tt
+  bound_merges : (c : Contract) (r : Result Bounded BoundFault) → IsMergeAtMost (bound_answer c r)
+  bound_merges c (Ok (bounded.Value num den w x)) = tt
+  bound_merges c (Ok (bounded.Unbounded x d)) = tt
+  bound_merges c (Ok (bounded.Nothing w)) = tt
+  bound_merges c (Err bounding.Memory) = tt
+  bound_merges c (Err (bounding.UnknownPort name)) = tt
+  bound_merges c (Err (bounding.Load count)) = tt
+  bound_merges c (Err (bounding.PivotLimit place)) = tt
+  bound_merges c (Err (bounding.Wide place)) = tt
 
   bound_at : (of : Name) (least : Bool) (goal : Goal) → IsGoal goal → (found : Option Contract) → contract_named table.contracts of ≡ found
       → IsGood table (Bound of least goal) (answer_of table (Bound of least goal))
@@ -228,38 +218,7 @@ module _ (table : Table) (formed : AreFormed table) (limited : IsLimit table.lim
       subst (IsGood table op) (sym (bound_given table of least goal c h)) (
         bound_line of least goal c h (bound_answer c (bounded_of c goal least most))
             (bound_true c goal least (found_formed of c h) g most),
-        bound_formed c (bounded_of c goal least most),
-      )
-
-  -- ---- hidings
-  hide_line : (result of : Name) (names : List Name) (c : Contract) → contract_named table.contracts of ≡ Some c
-      → contract_named table.contracts result ≡ None → (answer : LineAnswer) → IsTrueTo (Hiding c names) answer
-      → IsTrueOf table (Hide result of names) answer
-  hide_line result of names c h free (AnsweredBy answer) t = (rw free refl, (Hiding c names, ap (option_map (λ c. Hiding c names)) h, t))
-  hide_line result of names c h free Set t = absurd t
-  hide_line result of names c h free (Unknown name) t = absurd t
-  hide_line result of names c h free (Taken name) t = absurd t
-
-  hide_at : (result of : Name) (names : List Name) (found there : Option Contract) → contract_named table.contracts of ≡ found
-      → contract_named table.contracts result ≡ there → IsGood table (Hide result of names) (answer_of table (Hide result of names))
-  hide_at result of names None there h k =
-      let op = Hide result of names in
-      let first : unknown table.contracts op ≡ Some of = rw h refl in
-      subst (IsGood table op) (sym (answer_unknown table op of first)) (first, tt)
-  hide_at result of names (Some c) (Some d) h k =
-      let op = Hide result of names in
-      let known : unknown table.contracts op ≡ None = rw h refl in
-      let there : taken table.contracts op ≡ Some result = rw k refl in
-      subst (IsGood table op) (sym (answer_taken table op result known there)) ((known, there), tt)
-  hide_at result of names (Some c) None h k =
-      let op = Hide result of names in
-      let rows = table.limits.rows in
-      let pivots = table.limits.pivots in
-      let free : is_some (contract_named table.contracts result) ≡ false = rw k refl in
-      subst (IsGood table op) (sym (hide_given table result of names c h free)) (
-        hide_line result of names c h k (hide_answer (hidden_of c names rows pivots))
-            (hide_true c names (found_formed of c h) rows pivots limited.greatest),
-        hide_formed c names (found_formed of c h) rows pivots limited.greatest,
+        bound_merges c (bounded_of c goal least most),
       )
 
   -- ---- any line
@@ -270,50 +229,23 @@ module _ (table : Table) (formed : AreFormed table) (limited : IsLimit table.lim
   good (Test of names x) built w = test_at of names x w _ refl
   good (Refine left right) built w = refine_at left right _ _ refl refl
   good (Bound of least goal) built w = bound_at of least goal w _ refl
-  good (Hide result of names) built w = hide_at result of names _ _ refl refl
+  good (Hide result of names) built w = absurd (cc)
   good (Compose result parts keep) built w = absurd (cc)
   good (Quotient result whole part) built w = absurd (cc)
 
 -- the answer of a line is true of the table
-pub answer_true : (table : Table) (op : Op) → AreFormed table → IsLimit table.limits.rows → is_built op ≡ true → IsWellFormedOp op
-    → IsTrueOf table op (answer_of table op)
-answer_true table op formed limited built w = (good table formed limited op built w).0
-
--- ---- the limits past an answer
-set_limits : (table : Table) (op : Op) → IsLimit table.limits.rows → IsWellFormedOp op → IsLimit (with_limit table op).limits.rows
-set_limits table (LimitRows most) l w = w
-set_limits table (LimitPivots most) l w = l
-set_limits table (Merge result left right) l w = l
-set_limits table (Test of names x) l w = l
-set_limits table (Refine left right) l w = l
-set_limits table (Bound of least goal) l w = l
-set_limits table (Hide result of names) l w = l
-set_limits table (Compose result parts keep) l w = l
-set_limits table (Quotient result whole part) l w = l
-
-limits_stay : (table : Table) (op : Op) (answer : LineAnswer) → IsLimit table.limits.rows → IsWellFormedOp op
-    → IsLimit (advanced table op answer).limits.rows
-limits_stay table op Set l w = set_limits table op l w
-limits_stay table op (Unknown name) l w = l
-limits_stay table op (Taken name) l w = l
-limits_stay table op (AnsweredBy a) l w = by (result_of op) (contract_of a)
-  where
-    by : (name : Option Name) (contract : Option Contract) → IsLimit (with_answer table name contract).limits.rows
-    by name None = l
-    by None (Some c) = l
-    by (Some n) (Some c) = l
+pub answer_true : (table : Table) (op : Op) → AreFormed table → is_built op ≡ true → IsWellFormedOp op → IsTrueOf table op (answer_of table op)
+answer_true table op formed built w = (good table formed op built w).0
 
 -- all answers of a script are true
 pub answers_true : (lines : List ScriptLine) (table : Table)
-    → AreFormed table → IsLimit table.limits.rows → All (λ line. is_built line.op ≡ true) lines → All IsWellFormedLine lines
+    → AreFormed table → All (λ line. is_built line.op ≡ true) lines → All IsWellFormedLine lines
     → AreTrue table (answers_from table lines)
-answers_true [] table formed limited built w = tt
-answers_true (line ∷ lines) table formed limited built w =
-    let op_formed = (All-head IsWellFormedLine line lines w).op in
-    let (truth, gives) = good table formed limited line.op (All-head (λ l. is_built l.op ≡ true) line lines built) op_formed in (
+answers_true [] table formed built w = tt
+answers_true (line ∷ lines) table formed built w =
+    let (truth, merges) = good table formed line.op (All-head (λ l. is_built l.op ≡ true) line lines built) (All-head IsWellFormedLine line lines w).op in (
       truth,
-      answers_true lines (past table line) (table_stays table line.op (answer_of table line.op) formed gives)
-          (limits_stay table line.op (answer_of table line.op) limited op_formed)
+      answers_true lines (past table line) (true_table_stays table line.op (answer_of table line.op) formed merges truth)
           (All-tail (λ l. is_built l.op ≡ true) line lines built) (All-tail IsWellFormedLine line lines w),
     )
 
@@ -350,11 +282,11 @@ pub answer_advances : (table : Table) (op : Op) → CanAdvance table op (answer_
 answer_advances table op = advances_by table op (unknown table.contracts op) (taken table.contracts op) refl refl
 
 -- ---- of a call's result
-pub if_ok_true : {E : Type 0} (table : Table) (op : Op) → IsLimit table.limits.rows → is_built op ≡ true → IsWellFormedOp op
+pub if_ok_true : {E : Type 0} (table : Table) (op : Op) → is_built op ≡ true → IsWellFormedOp op
     → (r : Result LineAnswer E) → IfOk r (λ a. a ≡ answer_of table op)
     → AreFormed table → IfOk r (IsTrueOf table op)
-if_ok_true table op limited built w (Ok a) is formed = subst (IsTrueOf table op) (sym is) (answer_true table op formed limited built w)
-if_ok_true table op limited built w (Err e) is formed = tt
+if_ok_true table op built w (Ok a) is formed = subst (IsTrueOf table op) (sym is) (answer_true table op formed built w)
+if_ok_true table op built w (Err e) is formed = tt
 
 pub if_ok_advances : {E : Type 0} (table : Table) (op : Op) (r : Result LineAnswer E)
     → IfOk r (λ a. a ≡ answer_of table op) → IfOk r (CanAdvance table op)

@@ -1,6 +1,5 @@
 -- The answers to the lines of a script are true. The law is the clause of the function of its name in `src/laws.rt`.
 use Rattle.std.specs.Prelude.{◌≡◌, List, All, true}
-use Rattle.pa_row.specs.Steps.{IsLimit}
 use Rattle.pa_script.specs.declared.op.ScriptLine.{ScriptLine}
 use Rattle.pa_script.specs.Ops.{IsWellFormedLine}
 use Rattle.pa_cert.specs.Tables.{Table}
@@ -11,5 +10,4 @@ use Rattle.pa_answers.specs.Answers.{answers_from, AreFormed}
 -- each answer is true of the table that those before it leave
 abbrev pub AnswersAreTrue : Type 0
 AnswersAreTrue = (lines : List ScriptLine) (table : Table)
-    → AreFormed table → IsLimit table.limits.rows → All (λ line. is_built line.op ≡ true) lines → All IsWellFormedLine lines
-    → AreTrue table (answers_from table lines)
+    → AreFormed table → All (λ line. is_built line.op ≡ true) lines → All IsWellFormedLine lines → AreTrue table (answers_from table lines)

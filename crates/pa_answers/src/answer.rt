@@ -1,7 +1,6 @@
 // The answer to a script line.
 ghost use Rattle.std.specs.Prelude.{◌≡◌, IfOk, true, length};
 ghost use Rattle.pa_meaning.specs.Contracts.{ports};
-ghost use Rattle.pa_row.specs.Steps.{IsLimit};
 ghost use Rattle.pa_contract.specs.Merge.{merge_of};
 ghost use Rattle.pa_contract.specs.Testing.{tested};
 ghost use Rattle.pa_script.specs.Ops.{IsWellFormedOp};
@@ -12,7 +11,6 @@ ghost use Rattle.pa_answers.specs.Answers.{AreFormed};
 ghost use Rattle.pa_answers.specs.Built.{is_built};
 
 use crate::bounding::bounded;
-use crate::hiding::hidden;
 use crate::point::at_ports;
 use crate::refining::refined;
 use crate::told::{refused, taken, too_wide, unknown, unknown_port};
@@ -158,26 +156,6 @@ fn bound_line(
     }
 }
 
-// The answer to a hiding.
-#[tactic(auto, using(crate::proofs::Truths::hide_given))]
-fn hide_line(
-    alloc: Global,
-    table: &Table,
-    name: &Name,
-    of: &Name,
-    names: &Names,
-) -> Result<LineAnswer, AllocError>
-    ensures { IfOk result (λ answer. answer ≡ spec.answer_of table.now (Op.Hide name.now of.now names.now)) }
-{
-    let Some(contract) = table.find(of) else {
-        return unknown(alloc, of);
-    };
-    if table.find(name).is_some() {
-        return taken(alloc, name);
-    }
-    hidden(alloc, contract, names, table.limits())
-}
-
 // The answer to the line's operation.
 fn answer_op(alloc: Global, table: &Table, op: &Op) -> Result<LineAnswer, AllocError>
     requires { is_built op.now ≡ true }
@@ -193,16 +171,8 @@ fn answer_op(alloc: Global, table: &Table, op: &Op) -> Result<LineAnswer, AllocE
         Op::Test { of, names, at } => test_line(alloc, table, of, names, at),
         Op::Refine { left, right } => refine_line(alloc, table, left, right),
         Op::Bound { of, least, goal } => bound_line(alloc, table, of, *least, goal),
-        Op::Hide { result, of, names } => hide_line(alloc, table, result, of, names),
-        Op::Compose { .. } | Op::Quotient { .. } => unreachable!(),
+        Op::Hide { .. } | Op::Compose { .. } | Op::Quotient { .. } => unreachable!(),
     }
-}
-
-// Shows a proof that the limit of rows is in its range, as the type of the limits says. Nothing is computed.
-fn show_limits(table: &Table)
-    ensures { IsLimit table.now.limits.rows }
-{
-    let _limits = table.limits();
 }
 
 /// The answer to a script line over the table. A refusal by names comes first: a contract that is not
@@ -220,6 +190,5 @@ pub fn answer_line(
     ensures truth { AreFormed table.now → IfOk result (IsTrueOf table.now line.now.op) }
     ensures advances { IfOk result (CanAdvance table.now line.now.op) }
 {
-    show_limits(table);
     answer_op(alloc, table, &line.op)
 }

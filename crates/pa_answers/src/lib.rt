@@ -1,7 +1,7 @@
 //! The answer to a script line over a table of contracts, and that it is true.
 //!
-//! [`answer_line`] answers the operations that are built ([`is_built`]): a limit, a merge, a test, a refinement, a bound
-//! and a hiding. Each answer is the one that `specs/Answers` defines, a refusal by names first; it is true by the meaning of
+//! [`answer_line`] answers the operations that are built ([`is_built`]): a limit, a merge, a test, a refinement and a
+//! bound. Each answer is the one that `specs/Answers` defines, a refusal by names first; it is true by the meaning of
 //! `pa_holds` alone, and the table can go past it. [`answers_are_true`] says the same of all lines of a script, each over
 //! the table that the earlier answers leave. Read `specs/Answers` first.
 #![tactic(auto)]
@@ -9,7 +9,6 @@
 mod answer;
 mod bounding;
 mod built;
-mod hiding;
 mod laws;
 mod located;
 mod point;

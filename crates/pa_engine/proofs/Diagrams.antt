@@ -1,5 +1,5 @@
 -- The table that a diagram gives has well-formed contracts, no two with one name, so all answers to a script are true of it.
-use Rattle.std.proofs.Common.{◌≡◌, List, [], ◌∷◌, refl, subst, All, ◌&&◌, Bool, true, false, arith}
+use Rattle.std.proofs.Common.{◌≡◌, List, [], ◌∷◌, refl, subst, All, ◌&&◌, Bool, true, false}
 use Rattle.std.specs.List.{IsDistinct, list_all}
 use Rattle.std.specs.Str.{bytes_eq}
 use Rattle.std.proofs.lemmas.List.{map-append}
@@ -45,5 +45,4 @@ each_built (line ∷ lines) h = All-cons (λ l. is_built l.op ≡ true) line lin
 -- all answers to a script over a diagram are true
 pub diagram_answers : (d : Diagram) (lines : List ScriptLine) → AreFormed (table_of d) → all_built lines ≡ true → All IsWellFormedLine lines
     → AreTrue (table_of d) (answers_of d lines)
-diagram_answers d lines formed built well_formed =
-    answers_true lines (table_of d) formed (record { least = omega arith; greatest = omega arith }) (each_built lines built) well_formed
+diagram_answers d lines formed built well_formed = answers_true lines (table_of d) formed (each_built lines built) well_formed

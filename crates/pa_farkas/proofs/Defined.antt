@@ -30,7 +30,7 @@ use Rattle.pa_row.specs.declared.place.Spot.TheVariants as spot
 use Rattle.pa_row.specs.declared.place.Halt.{Halt}
 use Rattle.pa_row.specs.declared.place.Halt.TheVariants as halt
 use Rattle.pa_row.specs.Fractions.{IsCommonMultiple, common_from, over_common, point_in, weights_in}
-use Rattle.pa_row.specs.Sums.{covers_in, meets_in}
+use Rattle.pa_row.specs.Sums.{meets_in}
 use Rattle.pa_row.proofs.CommonDenominators.{common_positive, over_numerators, over_length}
 use Rattle.pa_replay.specs.declared.«end».End.{End}
 use Rattle.pa_replay.specs.declared.«end».End.TheVariants as ends
@@ -49,7 +49,7 @@ use Rattle.pa_bland.specs.Answered.{Shows, answer_of, answer_read, at_cell, at_r
 use Rattle.pa_bland.proofs.Meant.{read_shows}
 use Rattle.pa_replay.proofs.KeptSigns.{replay_signs}
 use Rattle.pa_replay.proofs.Solved.{width_solved}
-use Rattle.pa_farkas.specs.Alternatives.{IsCover, IsVerdict, IsFeasibility, ShowsImplied, ShowsUnmet, BreaksAt, IsMetAt}
+use Rattle.pa_farkas.specs.Alternatives.{IsVerdict, IsFeasibility, ShowsImplied, ShowsUnmet, BreaksAt, IsMetAt}
 use Rattle.pa_farkas.specs.Seen.{IsCompared, IsFound, IsPointOf, IsAwayFrom}
 use Rattle.pa_farkas.specs.declared.implication.Verdict.{Verdict}
 use Rattle.pa_farkas.specs.declared.implication.Verdict.TheVariants.{Yes, Empty, No}
@@ -59,7 +59,7 @@ use Rattle.pa_farkas.specs.Answered as spec
 use Rattle.pa_farkas.proofs.Comparisons.{compared_meant}
 use Rattle.pa_farkas.proofs.Walks.{away_is}
 use Rattle.pa_farkas.proofs.Shown.{of_row, of_zeros, least_beyond, least_implies, endless_unmet, base_columns, base_met, base_unmet}
-use Rattle.pa_farkas.proofs.Shown.{base_has_weights, base_breaks, least_covers, least_uncovers, endless_covers, none_covers}
+use Rattle.pa_farkas.proofs.Shown.{base_has_weights, base_breaks}
 
 -- ---- what holds of the answer and of the refusal of a chain of steps
 pub record Holds {A E : Type 0} (P : A → Type 0) (Q : E → Type 0) (r : Result A E) : Type 0 where
@@ -232,12 +232,6 @@ IsOf t halt.Memory = ⊥
 IsOf t (halt.PivotLimit p) = p.task ≡ t
 IsOf t (halt.Wide p) = (p.task ≡ t) × IsSolved p.spot
 
--- the same at the problem with the task's own target
-abbrev pub IsMainOf : Task → Halt → Type 0
-IsMainOf t halt.Memory = ⊥
-IsMainOf t (halt.PivotLimit p) = (p.task ≡ t) × (p.sub ≡ Main)
-IsMainOf t (halt.Wide p) = (p.task ≡ t) × (p.sub ≡ Main) × IsSolved p.spot
-
 module _ (t : Task) where
   solved_spot : (s : SolveSpot) → IsSolved (spec.spot_of s)
   solved_spot (spots.Cell at) = tt
@@ -254,17 +248,6 @@ module _ (t : Task) where
 
   pub wide_faults : {A : Type 0} (sub : Sub) (s : Spot) (r : Result A Wide) → IsSolved s → IfErr (told_as (spec.wide_in t sub s) r) (IsOf t)
   wide_faults sub s r solved = told (IsOf t) (spec.wide_in t sub s) r (λ e is. (refl, solved))
-
-  main_fault : (p : Problem) (most : ℕ) (e : SolveError) → answer_of (at_width 126) p most ≡ Err e → IsMainOf t (spec.halt_of t Main e)
-  main_fault p most errors.Memory is = answer_no_memory p 126 most is
-  main_fault p most errors.PivotLimit is = (refl, refl)
-  main_fault p most (errors.Wide s) is = (refl, refl, solved_spot s)
-
-  main_faults : (rows : List Row) (target : List ℤ) (most : ℕ) → IfErr (spec.solved_for t Main rows target most) (IsMainOf t)
-  main_faults rows target most = told (IsMainOf t) (spec.halt_of t Main) _ (main_fault (record { rows = rows; target = target }) most)
-
-  main_wide : {A : Type 0} (s : Spot) (r : Result A Wide) → IsSolved s → IfErr (told_as (spec.wide_in t Main s) r) (IsMainOf t)
-  main_wide s r solved = told (IsMainOf t) (spec.wide_in t Main s) r (λ e is. (refl, refl, solved))
 
   module _ {A : Type 0} (P : A → Type 0) where
     -- what is checked and then handed on
@@ -350,40 +333,6 @@ module _ (t : Task) where
     implied_is most =
         then (IsOf t) (IsVerdict rows row) (spec.solved_for t Main rows row.c most) _ (problem_faults Main rows row.c most)
         (λ a is. main_is most a (solved_shows Main (of_row rows row) most columns a is) (solved_has Main (of_row rows row) most a is))
-
-    -- ---- which weights cover it
-    abbrev Covers : Result (Option Weights) Halt → Type 0
-    Covers r = Holds (IsCover rows row) (IsMainOf t) r
-
-    cover_is : (w : Weights) → IsCover rows row (Some w) → Covers (spec.found_of rows row t w)
-    cover_is w h = by (covers_in rows row w)
-      where
-        by : (r : Result Bool Wide) → Covers (and_then (told_as (spec.wide_in t Main spot.Check) (and_then r (λ shown. Ok w))) (λ w. Ok (Some w)))
-        by (Ok shown) = record { ok = h; err = tt }
-        by (Err e) = record { ok = tt; err = (refl, refl, tt) }
-
-    least_cover : (a : LeastRead) → ShowsLeast (of_row rows row) a → Covers (spec.covered_by rows row t (Least a))
-    least_cover a s =
-        then (IsMainOf t) (IsCover rows row) (told_as (spec.wide_in t Main spot.Read) (spec.compared_in row a)) _
-        (main_wide spot.Read (spec.compared_in row a) tt)
-        (λ order is. by order (compared_meant row a (Ok order) s.positive (sym (told_ok (spec.wide_in t Main spot.Read) (spec.compared_in row a) order is))))
-      where
-        by : (order : Ordering) → IsCompared row a order → Covers (cond (spec.is_above order) (Ok None) (spec.found_of rows row t a.weights))
-        by order meant = above (spec.is_above order) refl
-          where
-            above : (b : Bool) → spec.is_above order ≡ b → Covers (cond b (Ok None) (spec.found_of rows row t a.weights))
-            above true high = record { ok = least_uncovers rows row a order s meant high; err = tt }
-            above false low = cover_is a.weights (least_covers rows row a order s meant low)
-
-    cover_by : (a : Answer) → Shows (of_row rows row) a → Covers (spec.covered_by rows row t a)
-    cover_by (Least a) s = least_cover a s
-    cover_by (Endless a) s = cover_is a.ray (endless_covers rows row a s)
-    cover_by (NoWeights d) s = record { ok = none_covers rows row d s; err = tt }
-
-    pub covered_is : (most : ℕ) → Covers (spec.covered_of rows row most t)
-    covered_is most =
-        then (IsMainOf t) (IsCover rows row) (spec.solved_for t Main rows row.c most) _ (main_faults rows row.c most)
-        (λ a is. cover_by a (solved_shows Main (of_row rows row) most columns a is))
 
   -- ---- of rows alone
   module _ (n : ℕ) (rows : List Row) where

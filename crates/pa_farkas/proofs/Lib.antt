@@ -6,4 +6,3 @@ pub mod Filters
 pub mod FilterTurns
 pub mod Placed
 pub mod Defined
-pub mod Thinned

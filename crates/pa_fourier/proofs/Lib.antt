@@ -9,4 +9,3 @@ pub mod CleanTurns
 pub mod Bounds
 pub mod GroupPlaces
 pub mod Walks
-pub mod Faults

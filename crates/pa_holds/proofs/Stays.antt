@@ -38,6 +38,13 @@ formed_are_distinct contracts h =
 abbrev pub GivesFormed : LineAnswer → Type 0
 GivesFormed answer = OfAnswer IsWellFormed answer
 
+-- if an answer has a contract, it is a merge
+abbrev pub IsMergeAtMost : LineAnswer → Type 0
+IsMergeAtMost (AnsweredBy (Hidden a)) = ⊥
+IsMergeAtMost (AnsweredBy (Composed a)) = ⊥
+IsMergeAtMost (AnsweredBy (Divided a)) = ⊥
+IsMergeAtMost answer = Unit {0}
+
 -- ---- what is said of each contract of a table is said of those of a question
 module _ (P : Contract → Type 0) where
   abbrev EachOf : Question → Type 0
@@ -70,13 +77,29 @@ table_stays table op answer h g = past_line IsWellFormed table op answer h g
 same_merge : (m n : Contract) (r : Result Contract MergeFault) → r ≡ Ok m → r ≡ Ok n → n ≡ m
 same_merge m n r h k = cc
 
--- the contract of a true merge
-pub merge_formed : (question : Question) (m : Contract) → All IsWellFormed (contracts_of question) → IsTrueAnswer question (Merged m) → IsWellFormed m
+merge_formed : (question : Question) (m : Contract) → All IsWellFormed (contracts_of question) → IsTrueAnswer question (Merged m) → IsWellFormed m
 merge_formed (Merging a b) m formed h =
     subst IsWellFormed (same_merge m (merged a b) (merge_of a b) h.1.computed (merge_computed a b h.0))
     (merged_is_well_formed a b (All-head IsWellFormed a (b ∷ []) formed) (All-head IsWellFormed b [] (All-tail IsWellFormed a (b ∷ []) formed))
     (merge_clear a b h.0) (merge_names a b h.0) (merge_rows a b h.0))
 merge_formed question m formed h = absurd h.1
+
+-- a true answer whose contract, if it has one, is a merge
+pub true_gives_formed : (table : Table) (op : Op) (answer : LineAnswer) → AreFormed table → IsMergeAtMost answer → IsTrueOf table op answer
+    → GivesFormed answer
+true_gives_formed table op Set h m t = tt
+true_gives_formed table op (Unknown n) h m t = tt
+true_gives_formed table op (Taken n) h m t = tt
+true_gives_formed table op (AnsweredBy (Merged c)) h m (free, (q, is, t)) =
+    merge_formed q c (subst (OfSome (λ q. All IsWellFormed (contracts_of q))) is (asked_have IsWellFormed table.contracts op h)) t
+true_gives_formed table op (AnsweredBy (Hidden a)) h m t = absurd m
+true_gives_formed table op (AnsweredBy (Composed a)) h m t = absurd m
+true_gives_formed table op (AnsweredBy (Divided a)) h m t = absurd m
+true_gives_formed table op (AnsweredBy a) h m t = tt
+
+pub true_table_stays : (table : Table) (op : Op) (answer : LineAnswer) → AreFormed table → IsMergeAtMost answer → IsTrueOf table op answer
+    → AreFormed (advanced table op answer)
+true_table_stays table op answer h m t = table_stays table op answer h (true_gives_formed table op answer h m t)
 
 if_some : (P : Contract → Type 0) (o : Option Contract) → ((c : Contract) → o ≡ Some c → P c) → OfSome P o
 if_some P None f = tt

@@ -3,7 +3,7 @@ use Rattle.pa_answers.proofs.answer.answer_line.Goals as goal
 
 pub returns-clause-truth : goal.returns-clause-truth
 returns-clause-truth c formed =
-    if_ok_true c.args.table.now c.args.line.now.op c.show_limits.ensures c.requires.built c.requires.well_formed c.answer_op.result c.answer_op.ensures formed
+    if_ok_true c.args.table.now c.args.line.now.op c.requires.built c.requires.well_formed c.answer_op.result c.answer_op.ensures formed
 
 pub returns-clause-advances : goal.returns-clause-advances
 returns-clause-advances c = if_ok_advances c.args.table.now c.args.line.now.op c.answer_op.result c.answer_op.ensures

@@ -1,4 +1,0 @@
-mod Places
-pub mod Columns
-pub mod Meant
-pub mod Defined

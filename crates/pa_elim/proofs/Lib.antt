@@ -1,4 +1,0 @@
-pub mod InTurn
-pub mod Steps
-pub mod Meant
-pub mod Defined
