@@ -1,6 +1,6 @@
 -- The rows of a step that is not Wide: their values, their columns, and what they mean.
-use Rattle.std.proofs.Common.{◌≡◌, refl, sym, ap, ap₂, ◌∙◌, ℕ, pred, ◌+◌, ◌<◌, Bool, true, false, not, cond, List, [], ◌∷◌, ◌++◌, append_assoc}
-use Rattle.std.proofs.Common.{append-nil, length, map, filter, flat_map, int_lt, All, Option, Some, None, Result, Ok, Err, IfOk, arith}
+use Rattle.std.proofs.Common.{◌≡◌, refl, sym, subst, ap, ap₂, ◌∙◌, ℕ, suc, pred, ◌+◌, ◌<◌, Bool, true, false, not, cond, List, [], ◌∷◌, ◌++◌, append_assoc}
+use Rattle.std.proofs.Common.{append-nil, length, length-append, IfErr, map, filter, flat_map, int_lt, All, Option, Some, None, Result, Ok, Err, IfOk, arith}
 use Rattle.std.proofs.lemmas.List.Elements.{All-head, All-tail, All-weaker}
 use Rattle.std.specs.Ordering.{int_eq}
 use lib.IntN.{pos}
@@ -18,8 +18,9 @@ use Rattle.pa_row.proofs.Pairs.{cancelled_exact}
 use Rattle.pa_fourier.specs.declared.fault.StepFault.{StepFault}
 use Rattle.pa_fourier.specs.declared.fault.StepFault.TheVariants.{Memory}
 use Rattle.pa_math.specs.Answers.{seen_as}
-use Rattle.pa_witness.specs.Steps.{Version, kept_at, others_at, substituted, substituted_at, equality_in, stepped}
+use Rattle.pa_witness.specs.Steps.{Version, kept_at, others_at, substituted, substituted_at, equality_in, stepped, step_count}
 use Rattle.pa_fourier.specs.StepFaults.{made_with, cancelled_without, pairs_with, pairs_due, substituted_without, substituted_due, step_in}
+use Rattle.pa_fourier.proofs.Faults.{StopsStep, made_stops}
 use Rattle.pa_witness.proofs.Substitution.{All-row_at}
 use Rattle.pa_witness.proofs.Equalities.{equality_in_is}
 
@@ -132,6 +133,23 @@ substituted_gives k columns p n row hp hn hr = by (int_lt (pos 0) (number_at row
     by true = cancelled_gives k row n (hr ∙ sym hn)
     by false = cancelled_gives k p row (hp ∙ sym hr)
 
+-- the sums of a step that substitutes an equality are those of its rows
+substituted_exact : (v : Version) (k columns : ℕ) (rows : List Row) (places : ℕ × ℕ) → equality_in v k rows ≡ Some places → All (HasColumns columns) rows
+    → Exact (substituted_due k rows places)
+    (map (λ row. without_column k (substituted k (row_at rows places.0) (row_at rows places.1) row)) (others_at k places.0 places.1 rows))
+substituted_exact v k columns rows places some h =
+    let is = equality_in_is v k rows places some in
+    let hp : HasColumns columns (row_at rows places.0) = All-row_at (HasColumns columns) rows places.0 is.first h in
+    let hn : HasColumns columns (row_at rows places.1) = All-row_at (HasColumns columns) rows places.1 is.second h in
+    exact_map (substituted_without k (row_at rows places.0) (row_at rows places.1))
+    (λ row. without_column k (substituted k (row_at rows places.0) (row_at rows places.1) row)) (others_at k places.0 places.1 rows)
+    (All-weaker (HasColumns columns)
+    (λ row. Gives (substituted_without k (row_at rows places.0) (row_at rows places.1) row)
+    (without_column k (substituted k (row_at rows places.0) (row_at rows places.1) row)))
+    (λ row hr. substituted_gives k columns (row_at rows places.0) (row_at rows places.1) row hp hn hr) (others_at k places.0 places.1 rows)
+    (kept_of_filter (HasColumns columns) (λ row. not (int_eq (number_at row.c k) (pos 0))) (without_places (places.0 ∷ places.1 ∷ []) 0 rows)
+    (All-without_places (HasColumns columns) (places.0 ∷ places.1 ∷ []) 0 rows h)))
+
 -- a step that is not Wide gives its rows
 pub step_value : (v : Version) (k columns : ℕ) (rows new : List Row) → All (HasColumns columns) rows → step_in v k rows ≡ Ok new → new ≡ stepped v k rows
 step_value v k columns rows new h e = by (equality_in v k rows) refl e
@@ -140,19 +158,36 @@ step_value v k columns rows new h e = by (equality_in v k rows) refl e
         → new ≡ given (eliminated k rows) o (substituted_at k rows)
     by None none e = made_exact (kept_at k rows) new (pairs_due k rows) (pairs_rows k rows) (pairs_exact k columns rows h) e ∙ sym (eliminated_is k rows)
     by (Some places) some e =
-        let is = equality_in_is v k rows places some in
-        let hp : HasColumns columns (row_at rows places.0) = All-row_at (HasColumns columns) rows places.0 is.first h in
-        let hn : HasColumns columns (row_at rows places.1) = All-row_at (HasColumns columns) rows places.1 is.second h in
         made_exact (kept_at k rows) new (substituted_due k rows places)
         (map (λ row. without_column k (substituted k (row_at rows places.0) (row_at rows places.1) row)) (others_at k places.0 places.1 rows))
-        (exact_map (substituted_without k (row_at rows places.0) (row_at rows places.1))
-        (λ row. without_column k (substituted k (row_at rows places.0) (row_at rows places.1) row)) (others_at k places.0 places.1 rows)
-        (All-weaker (HasColumns columns)
-        (λ row. Gives (substituted_without k (row_at rows places.0) (row_at rows places.1) row)
-        (without_column k (substituted k (row_at rows places.0) (row_at rows places.1) row)))
-        (λ row hr. substituted_gives k columns (row_at rows places.0) (row_at rows places.1) row hp hn hr) (others_at k places.0 places.1 rows)
-        (kept_of_filter (HasColumns columns) (λ row. not (int_eq (number_at row.c k) (pos 0))) (without_places (places.0 ∷ places.1 ∷ []) 0 rows)
-        (All-without_places (HasColumns columns) (places.0 ∷ places.1 ∷ []) 0 rows h)))) e
+        (substituted_exact v k columns rows places some h) e
+
+-- ---- where a step stops
+exact_length : (due : List (Result Row Wide)) (rows : List Row) → Exact due rows → length due ≡ length rows
+exact_length [] [] h = refl
+exact_length [] (r ∷ rs) h = absurd h
+exact_length (d ∷ ds) [] h = absurd h
+exact_length (d ∷ ds) (r ∷ rs) h = ap suc (exact_length ds rs h.1)
+
+-- a step that is Wide is so at one of its rows
+pub step_stops : (v : Version) (k columns : ℕ) (rows : List Row) → All (HasColumns columns) rows → IfErr (step_in v k rows) (StopsStep (step_count v k rows))
+step_stops v k columns rows h = by (equality_in v k rows) refl
+  where
+    stops : (due : List (Result Row Wide)) (new all : List Row) → Exact due new → all ≡ kept_at k rows ++ new
+        → IfErr (made_with (kept_at k rows) due) (StopsStep (length all))
+    stops due new all exact is =
+        subst (λ n. IfErr (made_with (kept_at k rows) due) (StopsStep n))
+        (ap (λ m. length (kept_at k rows) + m) (exact_length due new exact) ∙ sym (length-append (kept_at k rows) new) ∙ ap length (sym is))
+        (made_stops (kept_at k rows) due)
+
+    by : (o : Option (ℕ × ℕ)) → equality_in v k rows ≡ o
+        → IfErr (made_with (kept_at k rows) (given (pairs_due k rows) o (substituted_due k rows)))
+        (StopsStep (length (given (eliminated k rows) o (substituted_at k rows))))
+    by None none = stops (pairs_due k rows) (pairs_rows k rows) (eliminated k rows) (pairs_exact k columns rows h) (eliminated_is k rows)
+    by (Some places) some =
+        stops (substituted_due k rows places)
+        (map (λ row. without_column k (substituted k (row_at rows places.0) (row_at rows places.1) row)) (others_at k places.0 places.1 rows))
+        (substituted_at k rows places) (substituted_exact v k columns rows places some h) refl
 
 -- they have one column less
 pub step_columns : (v : Version) (k columns : ℕ) (rows : List Row) → k < columns → All (HasColumns columns) rows

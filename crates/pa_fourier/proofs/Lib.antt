@@ -9,3 +9,4 @@ pub mod CleanTurns
 pub mod Bounds
 pub mod GroupPlaces
 pub mod Walks
+pub mod Faults

@@ -30,7 +30,7 @@ place_below g (n ∷ ns) h = by (bytes_eq g n) h (place_below g ns)
     by true h rest = omega arith
     by false h rest = let less = rest h in omega arith
 
-one_less : (g : Name) (names : List Name) → list_any (bytes_eq g) names ≡ true → length (without (place_of g names) names) ≡ pred (length names)
+pub one_less : (g : Name) (names : List Name) → list_any (bytes_eq g) names ≡ true → length (without (place_of g names) names) ≡ pred (length names)
 one_less g names h = length-without (place_of g names) names (place_below g names h)
 
 -- the rows that are left are those of the columns

@@ -9,7 +9,7 @@ use Rattle.pa_meaning.specs.Contracts.{Name}
 use Rattle.pa_witness.specs.Projection.{AreThere, place_of, names_left}
 use Rattle.pa_witness.proofs.Projection.{IsDistinct-without}
 
-without_place : (g : Name) (xs ys : List Name) → list_any (bytes_eq g) xs ≡ false → without (place_of g (xs ++ g ∷ ys)) (xs ++ g ∷ ys) ≡ xs ++ ys
+pub without_place : (g : Name) (xs ys : List Name) → list_any (bytes_eq g) xs ≡ false → without (place_of g (xs ++ g ∷ ys)) (xs ++ g ∷ ys) ≡ xs ++ ys
 without_place g [] ys h = ap (λ b. without (cond b 0 (suc (place_of g ys))) (g ∷ ys)) (nat_list_eq_equiv.refl g)
 without_place g (x ∷ xs) ys h = by (bytes_eq g x) h (without_place g xs ys)
   where
@@ -19,10 +19,10 @@ without_place g (x ∷ xs) ys h = by (bytes_eq g x) h (without_place g xs ys)
     by true h rest = absurd (cc)
     by false h rest = ap (λ zs. x ∷ zs) (rest h)
 
-new_there : (xs ys : List Name) (y : Name) → IsDistinct bytes_eq (xs ++ y ∷ ys) → list_any (bytes_eq y) xs ≡ false
+pub new_there : (xs ys : List Name) (y : Name) → IsDistinct bytes_eq (xs ++ y ∷ ys) → list_any (bytes_eq y) xs ≡ false
 new_there xs ys y d = (AreApart-flip bytes_eq nat_list_eq_equiv xs (y ∷ ys) (IsDistinct-apart bytes_eq xs (y ∷ ys) d)).0
 
-still_distinct : (xs ys : List Name) (y : Name) → IsDistinct bytes_eq (xs ++ y ∷ ys) → IsDistinct bytes_eq (xs ++ ys)
+pub still_distinct : (xs ys : List Name) (y : Name) → IsDistinct bytes_eq (xs ++ y ∷ ys) → IsDistinct bytes_eq (xs ++ ys)
 still_distinct xs ys y d = subst (IsDistinct bytes_eq) (without_place y xs ys (new_there xs ys y d))
     (IsDistinct-without (place_of y (xs ++ y ∷ ys)) (xs ++ y ∷ ys) d)
 
