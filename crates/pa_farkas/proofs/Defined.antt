@@ -1,6 +1,6 @@
 -- What the definitions answer is true of the rows, also where no call has computed it, and their faults are at the task that
 -- was asked for: never want of memory, and never at the spot where costs are made.
-use Rattle.std.proofs.Common.{◌≡◌, refl, sym, ap, ◌∙◌, subst, ℕ, List, [], ◌∷◌, length, replicate, All, Option, Some, None, Result, Ok, Err, IfOk, IfErr}
+use Rattle.std.proofs.Common.{◌≡◌, refl, sym, ap, ◌∙◌, subst, ℕ, ◌≤◌, List, [], ◌∷◌, length, replicate, All, Option, Some, None, Result, Ok, Err, IfOk, IfErr}
 use Rattle.std.proofs.Common.{Bool, true, false, cond, map, arith}
 use Rattle.std.proofs.lemmas.Int.{ints}
 use Rattle.std.proofs.lemmas.List.{length-replicate}
@@ -21,7 +21,7 @@ use Rattle.pa_tableau.specs.Arithmetic.{at_width}
 use Rattle.pa_tableau.specs.Tableau.{Tableau}
 use Rattle.pa_tableau.specs.declared.wide_at.WideAt.{WideAt}
 use Rattle.pa_meaning.specs.Rows.{Row, Point}
-use Rattle.pa_meaning.specs.Weights.{Weights, impossible}
+use Rattle.pa_meaning.specs.Weights.{Weights}
 use Rattle.pa_row.specs.declared.place.Task.{Task}
 use Rattle.pa_row.specs.declared.place.Sub.{Sub}
 use Rattle.pa_row.specs.declared.place.Sub.TheVariants.{Main, Base}
@@ -30,7 +30,7 @@ use Rattle.pa_row.specs.declared.place.Spot.TheVariants as spot
 use Rattle.pa_row.specs.declared.place.Halt.{Halt}
 use Rattle.pa_row.specs.declared.place.Halt.TheVariants as halt
 use Rattle.pa_row.specs.Fractions.{IsCommonMultiple, common_from, over_common, point_in, weights_in}
-use Rattle.pa_row.specs.Sums.{meets_in}
+use Rattle.pa_row.specs.Sums.{covers_in, meets_in}
 use Rattle.pa_row.proofs.CommonDenominators.{common_positive, over_numerators, over_length}
 use Rattle.pa_replay.specs.declared.«end».End.{End}
 use Rattle.pa_replay.specs.declared.«end».End.TheVariants as ends
@@ -38,7 +38,7 @@ use Rattle.pa_replay.specs.declared.«end».SolveFault.{SolveFault}
 use Rattle.pa_replay.specs.Problem.{Problem}
 use Rattle.pa_replay.specs.Readings.{LeastRead, direction_answer, endless_answer, least_answer, numbers_in, point_read, value_read, weights_read}
 use Rattle.pa_replay.specs.Replay.{Ended, replay}
-use Rattle.pa_replay.specs.Shown.{ShowsEndless, ShowsLeast, ShowsNoWeights}
+use Rattle.pa_replay.specs.Shown.{ShowsLeast, ShowsNoWeights}
 use Rattle.pa_bland.specs.declared.answer.Answer.{Answer}
 use Rattle.pa_bland.specs.declared.answer.Answer.TheVariants.{Least, NoWeights, Endless}
 use Rattle.pa_bland.specs.declared.answer.SolveError.{SolveError}
@@ -49,7 +49,7 @@ use Rattle.pa_bland.specs.Answered.{Shows, answer_of, answer_read, at_cell, at_r
 use Rattle.pa_bland.proofs.Meant.{read_shows}
 use Rattle.pa_replay.proofs.KeptSigns.{replay_signs}
 use Rattle.pa_replay.proofs.Solved.{width_solved}
-use Rattle.pa_farkas.specs.Alternatives.{IsVerdict, IsFeasibility, ShowsImplied, ShowsUnmet, BreaksAt, IsMetAt}
+use Rattle.pa_farkas.specs.Alternatives.{IsCover, IsVerdict, IsFeasibility, ShowsImplied, ShowsUnmet, BreaksAt, IsMetAt}
 use Rattle.pa_farkas.specs.Seen.{IsCompared, IsFound, IsPointOf, IsAwayFrom}
 use Rattle.pa_farkas.specs.declared.implication.Verdict.{Verdict}
 use Rattle.pa_farkas.specs.declared.implication.Verdict.TheVariants.{Yes, Empty, No}
@@ -57,9 +57,10 @@ use Rattle.pa_farkas.specs.declared.base.Feasibility.{Feasibility}
 use Rattle.pa_farkas.specs.declared.base.Feasibility.TheVariants as feasible
 use Rattle.pa_farkas.specs.Answered as spec
 use Rattle.pa_farkas.proofs.Comparisons.{compared_meant}
+use Rattle.pa_farkas.proofs.PivotsFit.{cell_pivot}
 use Rattle.pa_farkas.proofs.Walks.{away_is}
 use Rattle.pa_farkas.proofs.Shown.{of_row, of_zeros, least_beyond, least_implies, endless_unmet, base_columns, base_met, base_unmet}
-use Rattle.pa_farkas.proofs.Shown.{base_has_weights, base_breaks}
+use Rattle.pa_farkas.proofs.Shown.{base_has_weights, base_breaks, least_covers, least_uncovers, endless_covers, none_covers}
 
 -- ---- what holds of the answer and of the refusal of a chain of steps
 pub record Holds {A E : Type 0} (P : A → Type 0) (Q : E → Type 0) (r : Result A E) : Type 0 where
@@ -219,67 +220,84 @@ module _ (p : Problem) where
     answer_shows columns h = shows_by columns (replay (at_width w) p most) refl h
 
 -- ---- faults
--- a spot of a problem, or of a check
-abbrev pub IsSolved : Spot → Type 0
-IsSolved spot.Load = ⊥
-IsSolved (spot.Pivot pivot row column) = Unit {0}
-IsSolved spot.Read = Unit {0}
-IsSolved spot.Check = Unit {0}
+-- a spot of a problem, whose pivots are at most this many, or of a check
+abbrev pub IsSolved : ℕ → Spot → Type 0
+IsSolved most spot.Load = ⊥
+IsSolved most (spot.Pivot pivot row column) = pivot ≤ most
+IsSolved most spot.Read = Unit {0}
+IsSolved most spot.Check = Unit {0}
 
 -- the fault has this task, and its spot is not where costs are made
-abbrev pub IsOf : Task → Halt → Type 0
-IsOf t halt.Memory = ⊥
-IsOf t (halt.PivotLimit p) = p.task ≡ t
-IsOf t (halt.Wide p) = (p.task ≡ t) × IsSolved p.spot
+abbrev pub IsOf : ℕ → Task → Halt → Type 0
+IsOf most t halt.Memory = ⊥
+IsOf most t (halt.PivotLimit p) = p.task ≡ t
+IsOf most t (halt.Wide p) = (p.task ≡ t) × IsSolved most p.spot
 
-module _ (t : Task) where
-  solved_spot : (s : SolveSpot) → IsSolved (spec.spot_of s)
-  solved_spot (spots.Cell at) = tt
-  solved_spot spots.Read = tt
+-- the same at the problem with the task's own target
+abbrev pub IsMainOf : ℕ → Task → Halt → Type 0
+IsMainOf most t halt.Memory = ⊥
+IsMainOf most t (halt.PivotLimit p) = (p.task ≡ t) × (p.sub ≡ Main)
+IsMainOf most t (halt.Wide p) = (p.task ≡ t) × (p.sub ≡ Main) × IsSolved most p.spot
 
-  problem_fault : (sub : Sub) (p : Problem) (most : ℕ) (e : SolveError) → answer_of (at_width 126) p most ≡ Err e → IsOf t (spec.halt_of t sub e)
-  problem_fault sub p most errors.Memory is = answer_no_memory p 126 most is
-  problem_fault sub p most errors.PivotLimit is = refl
-  problem_fault sub p most (errors.Wide s) is = (refl, solved_spot s)
+module _ (most : ℕ) (t : Task) where
+  solved_spot : (p : Problem) (s : SolveSpot) → answer_of (at_width 126) p most ≡ Err (errors.Wide s) → IsSolved most (spec.spot_of s)
+  solved_spot p (spots.Cell at) is = cell_pivot (at_width 126) p most at is
+  solved_spot p spots.Read is = tt
 
-  pub problem_faults : (sub : Sub) (rows : List Row) (target : List ℤ) (most : ℕ) → IfErr (spec.solved_for t sub rows target most) (IsOf t)
-  problem_faults sub rows target most =
-      told (IsOf t) (spec.halt_of t sub) _ (problem_fault sub (record { rows = rows; target = target }) most)
+  problem_fault : (sub : Sub) (p : Problem) (e : SolveError) → answer_of (at_width 126) p most ≡ Err e → IsOf most t (spec.halt_of t sub e)
+  problem_fault sub p errors.Memory is = answer_no_memory p 126 most is
+  problem_fault sub p errors.PivotLimit is = refl
+  problem_fault sub p (errors.Wide s) is = (refl, solved_spot p s is)
 
-  pub wide_faults : {A : Type 0} (sub : Sub) (s : Spot) (r : Result A Wide) → IsSolved s → IfErr (told_as (spec.wide_in t sub s) r) (IsOf t)
-  wide_faults sub s r solved = told (IsOf t) (spec.wide_in t sub s) r (λ e is. (refl, solved))
+  pub problem_faults : (sub : Sub) (rows : List Row) (target : List ℤ) → IfErr (spec.solved_for t sub rows target most) (IsOf most t)
+  problem_faults sub rows target =
+      told (IsOf most t) (spec.halt_of t sub) _ (problem_fault sub (record { rows = rows; target = target }))
+
+  pub wide_faults : {A : Type 0} (sub : Sub) (s : Spot) (r : Result A Wide) → IsSolved most s → IfErr (told_as (spec.wide_in t sub s) r) (IsOf most t)
+  wide_faults sub s r solved = told (IsOf most t) (spec.wide_in t sub s) r (λ e is. (refl, solved))
+
+  main_fault : (p : Problem) (e : SolveError) → answer_of (at_width 126) p most ≡ Err e → IsMainOf most t (spec.halt_of t Main e)
+  main_fault p errors.Memory is = answer_no_memory p 126 most is
+  main_fault p errors.PivotLimit is = (refl, refl)
+  main_fault p (errors.Wide s) is = (refl, refl, solved_spot p s is)
+
+  main_faults : (rows : List Row) (target : List ℤ) → IfErr (spec.solved_for t Main rows target most) (IsMainOf most t)
+  main_faults rows target = told (IsMainOf most t) (spec.halt_of t Main) _ (main_fault (record { rows = rows; target = target }))
+
+  main_wide : {A : Type 0} (s : Spot) (r : Result A Wide) → IsSolved most s → IfErr (told_as (spec.wide_in t Main s) r) (IsMainOf most t)
+  main_wide s r solved = told (IsMainOf most t) (spec.wide_in t Main s) r (λ e is. (refl, refl, solved))
 
   module _ {A : Type 0} (P : A → Type 0) where
     -- what is checked and then handed on
-    checked : {W : Type 0} (sub : Sub) (r : Result Bool Wide) (w : W) (next : W → Result A Halt) → Holds P (IsOf t) (next w)
-        → Holds P (IsOf t) (and_then (told_as (spec.wide_in t sub spot.Check) (and_then r (λ shown. Ok w))) next)
+    checked : {W : Type 0} (sub : Sub) (r : Result Bool Wide) (w : W) (next : W → Result A Halt) → Holds P (IsOf most t) (next w)
+        → Holds P (IsOf most t) (and_then (told_as (spec.wide_in t sub spot.Check) (and_then r (λ shown. Ok w))) next)
     checked sub (Ok shown) w next h = h
     checked sub (Err e) w next h = record { ok = tt; err = (refl, tt) }
 
-  pub solved_shows : (sub : Sub) (p : Problem) (most : ℕ) → AreOver p → (a : Answer) → spec.solved_for t sub p.rows p.target most ≡ Ok a → Shows p a
-  solved_shows sub p most columns a is =
+  pub solved_shows : (sub : Sub) (p : Problem) → AreOver p → (a : Answer) → spec.solved_for t sub p.rows p.target most ≡ Ok a → Shows p a
+  solved_shows sub p columns a is =
       answer_shows p 126 most a columns (told_ok (spec.halt_of t sub) (answer_of (at_width 126) p most) a is)
 
-  pub solved_has : (sub : Sub) (p : Problem) (most : ℕ) (a : Answer) → spec.solved_for t sub p.rows p.target most ≡ Ok a → HasAll a
-  solved_has sub p most a is = answer_has p 126 most a (told_ok (spec.halt_of t sub) (answer_of (at_width 126) p most) a is)
+  pub solved_has : (sub : Sub) (p : Problem) (a : Answer) → spec.solved_for t sub p.rows p.target most ≡ Ok a → HasAll a
+  solved_has sub p a is = answer_has p 126 most a (told_ok (spec.halt_of t sub) (answer_of (at_width 126) p most) a is)
 
   abbrev pub IsAnswer : (rows : List Row) (row : Row) → Result Verdict Halt → Type 0
-  IsAnswer rows row r = Holds (IsVerdict rows row) (IsOf t) r
+  IsAnswer rows row r = Holds (IsVerdict rows row) (IsOf most t) r
 
   -- ---- of a row that is asked about
   module _ (rows : List Row) (row : Row) (columns : All (λ (r : Row). length r.c ≡ length row.c) rows) where
     yes_is : (w : Weights) → ShowsImplied rows row w → IsAnswer rows row (spec.yes_of rows row t w)
-    yes_is w h = checked (IsVerdict rows row) Main _ w (λ w. Ok (Yes w)) (answered (IsOf t) (IsVerdict rows row) (Yes w) h)
+    yes_is w h = checked (IsVerdict rows row) Main _ w (λ w. Ok (Yes w)) (answered (IsOf most t) (IsVerdict rows row) (Yes w) h)
 
     empty_is : (sub : Sub) (w : Weights) → ShowsUnmet (length row.c) rows w → IsAnswer rows row (spec.empty_of rows row t sub w)
-    empty_is sub w h = checked (IsVerdict rows row) sub _ w (λ w. Ok (Empty w)) (answered (IsOf t) (IsVerdict rows row) (Empty w) h)
+    empty_is sub w h = checked (IsVerdict rows row) sub _ w (λ w. Ok (Empty w)) (answered (IsOf most t) (IsVerdict rows row) (Empty w) h)
 
     no_is : (sub : Sub) (x : Point) → BreaksAt rows row x → IsAnswer rows row (spec.no_of rows row t sub x)
     no_is sub x h = by (spec.tested_in x rows)
       where
         last : (r : Result Bool Wide) → IsAnswer rows row
             (and_then (and_then (Ok x) (λ x. told_as (spec.wide_in t sub spot.Check) (and_then r (λ met. Ok x)))) (λ x. Ok (No x)))
-        last (Ok met) = answered (IsOf t) (IsVerdict rows row) (No x) h
+        last (Ok met) = answered (IsOf most t) (IsVerdict rows row) (No x) h
         last (Err e) = record { ok = tt; err = (refl, tt) }
 
         by : (r : Result Bool Wide) → IsAnswer rows row
@@ -290,7 +308,7 @@ module _ (t : Task) where
 
     least_is : (a : LeastRead) → ShowsLeast (of_row rows row) a → HasDenominators a.point → IsAnswer rows row (spec.by_value rows row t a)
     least_is a s dens =
-        then (IsOf t) (IsVerdict rows row) (told_as (spec.wide_in t Main spot.Read) (spec.point_above row a)) _
+        then (IsOf most t) (IsVerdict rows row) (told_as (spec.wide_in t Main spot.Read) (spec.point_above row a)) _
         (wide_faults Main spot.Read (spec.point_above row a) tt)
         (λ found is. by found (found_is row a s.positive dens found (told_ok (spec.wide_in t Main spot.Read) (spec.point_above row a) found is)))
       where
@@ -302,7 +320,7 @@ module _ (t : Task) where
     base_is : (d : List ℤ) → ShowsNoWeights (of_row rows row) d → (a : Answer) → Shows (of_zeros rows (length row.c)) a → HasAll a
         → IsAnswer rows row (spec.by_base rows row t d a)
     base_is d stuck (Least a) s dens =
-        then (IsOf t) (IsVerdict rows row)
+        then (IsOf most t) (IsVerdict rows row)
         (told_as (spec.wide_in t Base spot.Read) (and_then (point_in a.point) (λ x. spec.away_in row x d))) _
         (wide_faults Base spot.Read (and_then (point_in a.point) (λ x. spec.away_in row x d)) tt)
         (λ y is. no_is Base y (base_breaks rows row a d y s stuck
@@ -318,42 +336,76 @@ module _ (t : Task) where
     base_is d stuck (Endless a) s dens = empty_is Base a.ray (base_unmet rows (length row.c) a s)
     base_is d stuck (NoWeights none) s dens = absurd (base_has_weights rows (length row.c) none s)
 
-    main_is : (most : ℕ) → (a : Answer) → Shows (of_row rows row) a → HasAll a
+    main_is : (a : Answer) → Shows (of_row rows row) a → HasAll a
         → IsAnswer rows row (spec.by_main rows row most t a)
-    main_is most (Least a) s dens = least_is a s dens
-    main_is most (Endless a) s dens = empty_is Main a.ray (endless_unmet (of_row rows row) a s)
-    main_is most (NoWeights d) s dens =
-        then (IsOf t) (IsVerdict rows row) (spec.solved_for t Base rows (replicate (length row.c) (pos 0)) most) _
-        (problem_faults Base rows (replicate (length row.c) (pos 0)) most)
+    main_is (Least a) s dens = least_is a s dens
+    main_is (Endless a) s dens = empty_is Main a.ray (endless_unmet (of_row rows row) a s)
+    main_is (NoWeights d) s dens =
+        then (IsOf most t) (IsVerdict rows row) (spec.solved_for t Base rows (replicate (length row.c) (pos 0)) most) _
+        (problem_faults Base rows (replicate (length row.c) (pos 0)))
         (λ a is.
-        base_is d s a (solved_shows Base (of_zeros rows (length row.c)) most (zeros_over (length row.c) rows columns) a is)
-        (solved_has Base (of_zeros rows (length row.c)) most a is))
+        base_is d s a (solved_shows Base (of_zeros rows (length row.c)) (zeros_over (length row.c) rows columns) a is)
+        (solved_has Base (of_zeros rows (length row.c)) a is))
 
-    pub implied_is : (most : ℕ) → IsAnswer rows row (spec.implied_of rows row most t)
-    implied_is most =
-        then (IsOf t) (IsVerdict rows row) (spec.solved_for t Main rows row.c most) _ (problem_faults Main rows row.c most)
-        (λ a is. main_is most a (solved_shows Main (of_row rows row) most columns a is) (solved_has Main (of_row rows row) most a is))
+    pub implied_is : IsAnswer rows row (spec.implied_of rows row most t)
+    implied_is =
+        then (IsOf most t) (IsVerdict rows row) (spec.solved_for t Main rows row.c most) _ (problem_faults Main rows row.c)
+        (λ a is. main_is a (solved_shows Main (of_row rows row) columns a is) (solved_has Main (of_row rows row) a is))
+
+    -- ---- which weights cover it
+    abbrev Covers : Result (Option Weights) Halt → Type 0
+    Covers r = Holds (IsCover rows row) (IsMainOf most t) r
+
+    cover_is : (w : Weights) → IsCover rows row (Some w) → Covers (spec.found_of rows row t w)
+    cover_is w h = by (covers_in rows row w)
+      where
+        by : (r : Result Bool Wide) → Covers (and_then (told_as (spec.wide_in t Main spot.Check) (and_then r (λ shown. Ok w))) (λ w. Ok (Some w)))
+        by (Ok shown) = record { ok = h; err = tt }
+        by (Err e) = record { ok = tt; err = (refl, refl, tt) }
+
+    least_cover : (a : LeastRead) → ShowsLeast (of_row rows row) a → Covers (spec.covered_by rows row t (Least a))
+    least_cover a s =
+        then (IsMainOf most t) (IsCover rows row) (told_as (spec.wide_in t Main spot.Read) (spec.compared_in row a)) _
+        (main_wide spot.Read (spec.compared_in row a) tt)
+        (λ order is. by order (compared_meant row a (Ok order) s.positive (sym (told_ok (spec.wide_in t Main spot.Read) (spec.compared_in row a) order is))))
+      where
+        by : (order : Ordering) → IsCompared row a order → Covers (cond (spec.is_above order) (Ok None) (spec.found_of rows row t a.weights))
+        by order meant = above (spec.is_above order) refl
+          where
+            above : (b : Bool) → spec.is_above order ≡ b → Covers (cond b (Ok None) (spec.found_of rows row t a.weights))
+            above true high = record { ok = least_uncovers rows row a order s meant high; err = tt }
+            above false low = cover_is a.weights (least_covers rows row a order s meant low)
+
+    cover_by : (a : Answer) → Shows (of_row rows row) a → Covers (spec.covered_by rows row t a)
+    cover_by (Least a) s = least_cover a s
+    cover_by (Endless a) s = cover_is a.ray (endless_covers rows row a s)
+    cover_by (NoWeights d) s = record { ok = none_covers rows row d s; err = tt }
+
+    pub covered_is : Covers (spec.covered_of rows row most t)
+    covered_is =
+        then (IsMainOf most t) (IsCover rows row) (spec.solved_for t Main rows row.c most) _ (main_faults rows row.c)
+        (λ a is. cover_by a (solved_shows Main (of_row rows row) columns a is))
 
   -- ---- of rows alone
   module _ (n : ℕ) (rows : List Row) where
     abbrev pub IsPoint : Result Feasibility Halt → Type 0
-    IsPoint r = Holds (IsFeasibility n rows) (IsOf t) r
+    IsPoint r = Holds (IsFeasibility n rows) (IsOf most t) r
 
     point_is : (x : Point) → IsMetAt n rows x → IsPoint (and_then (spec.point_checked rows t Base x) (λ x. Ok (feasible.Point x)))
     point_is x h = checked (IsFeasibility n rows) Base (spec.tested_in x rows) x (λ x. Ok (feasible.Point x))
-        (answered (IsOf t) (IsFeasibility n rows) (feasible.Point x) h)
+        (answered (IsOf most t) (IsFeasibility n rows) (feasible.Point x) h)
 
     by_is : (a : Answer) → Shows (of_zeros rows n) a → HasAll a → IsPoint (spec.feasible_by n rows t a)
     by_is (Least a) s dens =
-        then (IsOf t) (IsFeasibility n rows) (told_as (spec.wide_in t Base spot.Read) (point_in a.point)) _
+        then (IsOf most t) (IsFeasibility n rows) (told_as (spec.wide_in t Base spot.Read) (point_in a.point)) _
         (wide_faults Base spot.Read (point_in a.point) tt)
         (λ x is. point_is x (base_met rows n a x s (point_of a dens x (told_ok (spec.wide_in t Base spot.Read) (point_in a.point) x is))))
     by_is (Endless a) s dens = checked (IsFeasibility n rows) Base _ a.ray (λ w. Ok (feasible.Empty w))
-        (answered (IsOf t) (IsFeasibility n rows) (feasible.Empty a.ray) (base_unmet rows n a s))
+        (answered (IsOf most t) (IsFeasibility n rows) (feasible.Empty a.ray) (base_unmet rows n a s))
     by_is (NoWeights none) s dens = absurd (base_has_weights rows n none s)
 
-    pub feasible_is : (most : ℕ) → All (λ (r : Row). length r.c ≡ n) rows → IsPoint (spec.feasible_of n rows most t)
-    feasible_is most columns =
-        then (IsOf t) (IsFeasibility n rows) (spec.solved_for t Base rows (replicate n (pos 0)) most) _
-        (problem_faults Base rows (replicate n (pos 0)) most)
-        (λ a is. by_is a (solved_shows Base (of_zeros rows n) most (zeros_over n rows columns) a is) (solved_has Base (of_zeros rows n) most a is))
+    pub feasible_is : All (λ (r : Row). length r.c ≡ n) rows → IsPoint (spec.feasible_of n rows most t)
+    feasible_is columns =
+        then (IsOf most t) (IsFeasibility n rows) (spec.solved_for t Base rows (replicate n (pos 0)) most) _
+        (problem_faults Base rows (replicate n (pos 0)))
+        (λ a is. by_is a (solved_shows Base (of_zeros rows n) (zeros_over n rows columns) a is) (solved_has Base (of_zeros rows n) a is))

@@ -297,7 +297,7 @@ module _ (all : List Row) (i : ℕ) (f : Filtering) (is : IsFiltered all i f) (h
       ∙ row_there (left gone 0 (take i all)) (get_or all i none) (drop (suc i) all) (length (left gone 0 (take i all))) refl
       ∙ sym (row_at_read all i none h)
 
-  place_is : t.place ≡ i
+  pub place_is : t.place ≡ i
   place_is = ap₂ (λ (xs : List ℕ) k. get_or xs k 0) is.places next_place ∙ numbers.read ∙ get_or-numbers_from 0 (length all) i 0 h ∙ omega arith
 
   places_are : t.others.places ≡ left (i ∷ gone) 0 range

@@ -5,4 +5,7 @@ pub mod Shown
 pub mod Filters
 pub mod FilterTurns
 pub mod Placed
+pub mod PivotsFit
 pub mod Defined
+pub mod Thinnings
+pub mod Unlimited

@@ -1,5 +1,6 @@
 pub mod Alternatives
 pub mod Answered
+pub mod FewBases
 pub mod Seen
 pub use Rattle.pa_meaning.specs.Rows
 pub use Rattle.pa_meaning.specs.Weights

@@ -11,6 +11,7 @@ ghost use Rattle.pa_row.specs.declared.place.Sub.TheVariants as Sub;
 ghost use Rattle.pa_farkas.specs.declared.base.Feasibility.TheVariants as Feasibility;
 ghost use Rattle.pa_row.specs.declared.place.Halt.TheVariants as Halt;
 ghost use Rattle.pa_farkas.specs.Alternatives.{IsFeasibility, IsMetAt, ShowsUnmet};
+ghost use Rattle.pa_farkas.specs.FewBases.{HasFewBases, IsNotLimited};
 ghost use Rattle.pa_farkas.specs.Answered as spec;
 
 use crate::checked::{point_checked, weights_checked};
@@ -110,14 +111,8 @@ fn by_base(
     }
 }
 
-/// Whether a point meets the rows: one that does, or weights that prove `0 <= -1` (J. Farkas, Theorie der einfachen
-/// Ungleichungen, 1902), over a work that serves many questions. Each is checked by sums before it is answered.
-///
-/// The rows have this many columns, at most 128, there are at most 4,096 of them, the work has room, and `most` is at most
-/// 4,096. `PivotLimit` and `Wide` name the task and, at the problem with the target 0, a cell of the run, a number that is
-/// read at its end, or a sum of the check. `PivotLimit` comes exactly where the run has made `most` pivots and another one
-/// is to come, `Wide` exactly where a number passes 126 bits before that, and `Memory` where memory runs out.
-pub fn feasible_in(
+// The point that meets the rows, or the weights that show that none does.
+fn feasibility_in(
     alloc: Global,
     work: &mut Work<Wide126>,
     rows: &[Row],
@@ -139,6 +134,35 @@ pub fn feasible_in(
     by_base(alloc, rows, columns, task, answer)
 }
 
+/// Whether a point meets the rows: one that does, or weights that prove `0 <= -1` (J. Farkas, Theorie der einfachen
+/// Ungleichungen, 1902), over a work that serves many questions. Each is checked by sums before it is answered.
+///
+/// The rows have this many columns, at most 128, there are at most 4,096 of them, the work has room, and `most` is at most
+/// 4,096. `PivotLimit` and `Wide` name the task and, at the problem with the target 0, a cell of the run, a number that is
+/// read at its end, or a sum of the check. `PivotLimit` comes exactly where the run has made `most` pivots and another one
+/// is to come, `Wide` exactly where a number passes 126 bits before that, and `Memory` where memory runs out.
+/// `PivotLimit` never comes where `most_bases` of the numbers of rows and of columns is at most `most`.
+pub fn feasible_in(
+    alloc: Global,
+    work: &mut Work<Wide126>,
+    rows: &[Row],
+    columns: u32,
+    most: u32,
+    task: Task,
+) -> Result<Feasibility, Halt>
+    requires columns { All (λ r. length r.c ≡ columns) rows.now }
+    requires few { length rows.now ≤ 4096 }
+    requires short { columns ≤ 128 }
+    requires room { HasRoom columns (length rows.now) work.old }
+    requires most { most ≤ 4096 }
+    ensures room { KeepsRoom work.old work.new }
+    ensures answer { IsAnswer Halt.Memory (spec.feasible_of columns rows.now most task) result }
+    ensures truth { IfOk result (IsFeasibility columns rows.now) }
+    ensures unlimited { HasFewBases (length rows.now) columns most → IsNotLimited result }
+{
+    feasibility_in(alloc, work, rows, columns, most, task)
+}
+
 /// The same in a work of its own.
 pub fn feasible(
     alloc: Global,
@@ -153,6 +177,7 @@ pub fn feasible(
     requires most { most ≤ 4096 }
     ensures answer { IsAnswer Halt.Memory (spec.feasible_of columns rows.now most task) result }
     ensures truth { IfOk result (IsFeasibility columns rows.now) }
+    ensures unlimited { HasFewBases (length rows.now) columns most → IsNotLimited result }
 {
     let Ok(mut work) = Work::new(alloc, columns, rows.len() as u32) else {
         return Err(Halt::Memory);

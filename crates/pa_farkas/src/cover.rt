@@ -8,6 +8,7 @@ ghost use Rattle.pa_bland.specs.declared.answer.Answer.TheVariants as Answer;
 ghost use Rattle.pa_replay.specs.Shown.{ShowsEndless, ShowsLeast};
 ghost use Rattle.pa_row.specs.declared.place.Halt.TheVariants as Halt;
 ghost use Rattle.pa_farkas.specs.Alternatives.{IsCover};
+ghost use Rattle.pa_farkas.specs.FewBases.{HasFewBases, IsNotLimited};
 ghost use Rattle.pa_farkas.specs.Answered as spec;
 
 use crate::checked::weights_checked;
@@ -84,17 +85,8 @@ fn by_answer(rows: &[Row], row: &Row, task: Task, answer: Answer) -> Result<Opti
     }
 }
 
-/// Weights that prove the row over the rows (J. Farkas, Theorie der einfachen Ungleichungen, 1902), over a work that serves
-/// many questions. `None` exactly where no weights have the row's coefficients and at most its bound. The weights are those
-/// of the least bound; where the bounds have none, they are a ray, which proves `0 <= -1`. They are checked by sums before
-/// they are answered.
-///
-/// The rows have as many columns as `row`, at most 128, there are at most 4,096 of them, the work has room, and `most` is
-/// at most 4,096. `PivotLimit` and `Wide` name the task and, at the problem with the row's coefficients as its target, a
-/// cell of the run, a number that is read at its end, or a sum of the check. `PivotLimit` comes exactly where the run has
-/// made `most` pivots and another one is to come, `Wide` exactly where a number passes 126 bits before that, and `Memory`
-/// where memory runs out.
-pub fn covered_in(
+// The weights that cover the row, over a work that serves many questions.
+fn weights_in(
     alloc: Global,
     work: &mut Work<Wide126>,
     rows: &[Row],
@@ -115,6 +107,38 @@ pub fn covered_in(
     by_answer(rows, row, task, answer)
 }
 
+/// Weights that prove the row over the rows (J. Farkas, Theorie der einfachen Ungleichungen, 1902), over a work that serves
+/// many questions. `None` exactly where no weights have the row's coefficients and at most its bound. The weights are those
+/// of the least bound; where the bounds have none, they are a ray, which proves `0 <= -1`. They are checked by sums before
+/// they are answered.
+///
+/// The rows have as many columns as `row`, at most 128, there are at most 4,096 of them, the work has room, and `most` is
+/// at most 4,096. `PivotLimit` and `Wide` name the task and, at the problem with the row's coefficients as its target, a
+/// cell of the run, a number that is read at its end, or a sum of the check. `PivotLimit` comes exactly where the run has
+/// made `most` pivots and another one is to come, `Wide` exactly where a number passes 126 bits before that, and `Memory`
+/// where memory runs out.
+/// `PivotLimit` never comes where `most_bases` of the numbers of rows and of columns is at most `most`.
+pub fn covered_in(
+    alloc: Global,
+    work: &mut Work<Wide126>,
+    rows: &[Row],
+    row: &Row,
+    most: u32,
+    task: Task,
+) -> Result<Option<Weights>, Halt>
+    requires columns { All (λ r. length r.c ≡ length row.now.c) rows.now }
+    requires few { length rows.now ≤ 4096 }
+    requires short { length row.now.c ≤ 128 }
+    requires room { HasRoom (length row.now.c) (length rows.now) work.old }
+    requires most { most ≤ 4096 }
+    ensures room { KeepsRoom work.old work.new }
+    ensures answer { IsAnswer Halt.Memory (spec.covered_of rows.now row.now most task) result }
+    ensures truth { IfOk result (IsCover rows.now row.now) }
+    ensures unlimited { HasFewBases (length rows.now) (length row.now.c) most → IsNotLimited result }
+{
+    weights_in(alloc, work, rows, row, most, task)
+}
+
 /// The same in a work of its own.
 pub fn covered(
     alloc: Global,
@@ -129,6 +153,7 @@ pub fn covered(
     requires most { most ≤ 4096 }
     ensures answer { IsAnswer Halt.Memory (spec.covered_of rows.now row.now most task) result }
     ensures truth { IfOk result (IsCover rows.now row.now) }
+    ensures unlimited { HasFewBases (length rows.now) (length row.now.c) most → IsNotLimited result }
 {
     let Ok(mut work) = Work::new(alloc, row.c.len() as u32, rows.len() as u32) else {
         return Err(Halt::Memory);

@@ -11,6 +11,7 @@ ghost use Rattle.pa_row.specs.Fractions.{point_in};
 ghost use Rattle.pa_row.specs.declared.fault.RowFault.TheVariants as RowFault;
 ghost use Rattle.pa_row.specs.declared.place.Halt.TheVariants as Halt;
 ghost use Rattle.pa_farkas.specs.Alternatives.{BreaksAt, IsVerdict, ShowsImplied, ShowsUnmet};
+ghost use Rattle.pa_farkas.specs.FewBases.{HasFewBases, IsNotLimited};
 ghost use Rattle.pa_farkas.specs.Answered as spec;
 ghost use Rattle.pa_farkas.specs.Seen.{IsAwayFrom};
 ghost use Rattle.pa_replay.specs.Shown.{ShowsLeast, ShowsNoWeights};
@@ -191,17 +192,8 @@ fn by_main(
     }
 }
 
-/// Whether the rows imply the row (J. Farkas, Theorie der einfachen Ungleichungen, 1902), over a work that serves many
-/// questions: weights that prove the row, weights that prove `0 <= -1` where no point meets the rows, or a point that
-/// meets the rows and breaks the row. Each is checked by sums before it is answered.
-///
-/// The rows have as many columns as `row`, at most 128, there are at most 4,096 of them, the work has room, and `most` is
-/// at most 4,096. There are two problems: the main one has the row's coefficients as its target, and the base one, which
-/// is solved where no weights make these, has the target 0. `PivotLimit` and `Wide` name the task, the problem that was
-/// solved last and the spot: a cell of the run, a number that is read at its end, or a sum of the check. `PivotLimit` comes
-/// exactly where the run on a problem has made `most` pivots and another one is to come, `Wide` exactly where a number
-/// passes 126 bits before that, and `Memory` where memory runs out.
-pub fn implied_in(
+// The verdict, over a work that serves many questions.
+fn verdict_in(
     alloc: Global,
     work: &mut Work<Wide126>,
     rows: &[Row],
@@ -222,6 +214,38 @@ pub fn implied_in(
     by_main(alloc, work, rows, row, most, task, answer)
 }
 
+/// Whether the rows imply the row (J. Farkas, Theorie der einfachen Ungleichungen, 1902), over a work that serves many
+/// questions: weights that prove the row, weights that prove `0 <= -1` where no point meets the rows, or a point that
+/// meets the rows and breaks the row. Each is checked by sums before it is answered.
+///
+/// The rows have as many columns as `row`, at most 128, there are at most 4,096 of them, the work has room, and `most` is
+/// at most 4,096. There are two problems: the main one has the row's coefficients as its target, and the base one, which
+/// is solved where no weights make these, has the target 0. `PivotLimit` and `Wide` name the task, the problem that was
+/// solved last and the spot: a cell of the run, a number that is read at its end, or a sum of the check. `PivotLimit` comes
+/// exactly where the run on a problem has made `most` pivots and another one is to come, `Wide` exactly where a number
+/// passes 126 bits before that, and `Memory` where memory runs out.
+/// `PivotLimit` never comes where `most_bases` of the numbers of rows and of columns is at most `most`.
+pub fn implied_in(
+    alloc: Global,
+    work: &mut Work<Wide126>,
+    rows: &[Row],
+    row: &Row,
+    most: u32,
+    task: Task,
+) -> Result<Verdict, Halt>
+    requires columns { All (λ r. length r.c ≡ length row.now.c) rows.now }
+    requires few { length rows.now ≤ 4096 }
+    requires short { length row.now.c ≤ 128 }
+    requires room { HasRoom (length row.now.c) (length rows.now) work.old }
+    requires most { most ≤ 4096 }
+    ensures room { KeepsRoom work.old work.new }
+    ensures answer { IsAnswer Halt.Memory (spec.implied_of rows.now row.now most task) result }
+    ensures truth { IfOk result (IsVerdict rows.now row.now) }
+    ensures unlimited { HasFewBases (length rows.now) (length row.now.c) most → IsNotLimited result }
+{
+    verdict_in(alloc, work, rows, row, most, task)
+}
+
 /// The same in a work of its own.
 pub fn implied(
     alloc: Global,
@@ -236,6 +260,7 @@ pub fn implied(
     requires most { most ≤ 4096 }
     ensures answer { IsAnswer Halt.Memory (spec.implied_of rows.now row.now most task) result }
     ensures truth { IfOk result (IsVerdict rows.now row.now) }
+    ensures unlimited { HasFewBases (length rows.now) (length row.now.c) most → IsNotLimited result }
 {
     let Ok(mut work) = Work::new(alloc, row.c.len() as u32, rows.len() as u32) else {
         return Err(Halt::Memory);

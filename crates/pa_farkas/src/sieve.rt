@@ -9,6 +9,7 @@ ghost use Rattle.pa_row.specs.declared.place.Halt.TheVariants as Halt;
 ghost use Rattle.pa_row.specs.declared.place.Task.TheVariants as Task;
 ghost use Rattle.pa_farkas.specs.Alternatives.{IsCover, IsThinning};
 ghost use Rattle.pa_farkas.specs.Answered as spec;
+ghost use Rattle.pa_farkas.specs.FewBases.{HasFewBases, IsNotLimited};
 ghost use Rattle.pa_farkas.specs.Seen.{CanStart, IsFiltered, IsNext, IsReady, asked_about, dropped as dropped_of, numbers_from, put_back as put_back_of, start_of, taken as taken_of};
 
 use crate::cover::covered_in;
@@ -333,16 +334,8 @@ fn cleaned(
     Ok((start, count))
 }
 
-/// The rows without those that are needless at sight, which `pa_fourier::clean` leaves out, and then without those that
-/// the others imply, over a work that serves many questions. From the first row to the last, a row is dropped where the
-/// rows that are left then and the context cover it, without the row itself (`covered`; J. Telgen, Minimal representation
-/// of convex polyhedral sets, 1982). At a point that meets the context, the rows that stay are met exactly where the given
-/// ones are. In the drops the rows are numbered as they stand after the clean, and the context behind them.
-///
-/// Rows and context have this many columns, at most 128, there are at most 4,096 of them together, the work has room, and
-/// `most` is at most 4,096. `Wide` names a comparison of the clean by its row, and else `PivotLimit` and `Wide` name the row
-/// in hand and the spot, as `covered` does; they come of the first row where they do. `Memory` where memory runs out.
-pub fn thin_in(
+// The rows that the clean and the others leave, over a work that serves many questions.
+fn thinned_in(
     alloc: Global,
     work: &mut Work<Wide126>,
     rows: &[Row],
@@ -366,6 +359,39 @@ pub fn thin_in(
     Ok(front(filter))
 }
 
+/// The rows without those that are needless at sight, which `pa_fourier::clean` leaves out, and then without those that
+/// the others imply, over a work that serves many questions. From the first row to the last, a row is dropped where the
+/// rows that are left then and the context cover it, without the row itself (`covered`; J. Telgen, Minimal representation
+/// of convex polyhedral sets, 1982). At a point that meets the context, the rows that stay are met exactly where the given
+/// ones are. In the drops the rows are numbered as they stand after the clean, and the context behind them.
+///
+/// Rows and context have this many columns, at most 128, there are at most 4,096 of them together, the work has room, and
+/// `most` is at most 4,096. `Wide` names a comparison of the clean by its row, and else `PivotLimit` and `Wide` name the row
+/// in hand and the spot, as `covered` does; they come of the first row where they do. `Memory` where memory runs out.
+/// `PivotLimit` never comes where `most_bases` of the numbers of rows, with the context, and of columns is at most `most`.
+pub fn thin_in(
+    alloc: Global,
+    work: &mut Work<Wide126>,
+    rows: &[Row],
+    context: &[Row],
+    columns: u32,
+    most: u32,
+    group: Group,
+) -> Result<Thinned, Halt>
+    requires columns { All (λ r. length r.c ≡ columns) rows.now }
+    requires context_columns { All (λ r. length r.c ≡ columns) context.now }
+    requires few { length rows.now + length context.now ≤ 4096 }
+    requires short { columns ≤ 128 }
+    requires room { HasRoom columns (length rows.now + length context.now) work.old }
+    requires most { most ≤ 4096 }
+    ensures room { KeepsRoom work.old work.new }
+    ensures answer { IsAnswer Halt.Memory (spec.thinned_of columns rows.now context.now most group) result }
+    ensures truth { IfOk result (IsThinning columns rows.now context.now) }
+    ensures unlimited { HasFewBases (length rows.now + length context.now) columns most → IsNotLimited result }
+{
+    thinned_in(alloc, work, rows, context, columns, most, group)
+}
+
 /// The same in a work of its own.
 pub fn thin(
     alloc: Global,
@@ -382,6 +408,7 @@ pub fn thin(
     requires most { most ≤ 4096 }
     ensures answer { IsAnswer Halt.Memory (spec.thinned_of columns rows.now context.now most group) result }
     ensures truth { IfOk result (IsThinning columns rows.now context.now) }
+    ensures unlimited { HasFewBases (length rows.now + length context.now) columns most → IsNotLimited result }
 {
     let Ok(mut work) = Work::new(alloc, columns, (rows.len() + context.len()) as u32) else {
         return Err(Halt::Memory);
