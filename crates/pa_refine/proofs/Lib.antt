@@ -4,3 +4,4 @@ mod Covered
 mod Values
 pub mod Meant
 pub mod Defined
+mod Unlimited

@@ -1,10 +1,12 @@
 // How great or small a goal is at the behaviours of a contract.
-ghost use Rattle.std.specs.Prelude.{◌≡◌, ◌≤◌, ◌⊎◌, All, IfErr, IfOk, IsSome, None};
+ghost use Rattle.std.specs.Prelude.{◌≡◌, ◌≤◌, ◌⊎◌, All, Err, IfErr, IfOk, IsSome, None, length};
 ghost use Rattle.pa_math.specs.Answers.{IsAnswer};
 ghost use Rattle.pa_frac.specs.Width.{Fits};
 ghost use Rattle.pa_meaning.specs.Contracts.{ports};
 ghost use Rattle.pa_contract.specs.Merge.{row_count};
 ghost use Rattle.pa_holds.specs.Refusals.{due_bound, first_missing};
+ghost use Rattle.pa_row.specs.declared.place.Place.{Place};
+ghost use Rattle.pa_farkas.specs.FewBases.{HasFewBases};
 ghost use Rattle.pa_refine.specs.Bounding as spec;
 ghost use Rattle.pa_refine.specs.Meant.{HoldsAsBounded, IsTrueOfBounding};
 ghost use Rattle.pa_refine.specs.Seen.{CanAsk, IsBest};
@@ -96,6 +98,8 @@ fn bounded(
     ensures exact { IsAnswer BoundFault.Memory (spec.bounded_rows contract.now goal.now least most) result }
     ensures truth { IfOk result (IsTrueOfBounding contract.now goal.now least) }
     ensures printed { IfOk result (HoldsAsBounded contract.now goal.now least) }
+    ensures unlimited { HasFewBases (row_count contract.now) (length (ports contract.now)) most
+        → (place : Place) → result ≡ Err (BoundFault.PivotLimit place) → ⊥ }
 {
     show_well_formed(contract);
     show_goal(goal);
@@ -112,7 +116,9 @@ fn bounded(
 /// Refused, in this order, exactly where a name of the goal is no port (`UnknownPort`, the first such name), and where the
 /// contract has more than 4,096 rows (`Load`); then `PivotLimit`, and `Wide` exactly where a number passes 126 bits: at a
 /// cell of a problem's run, at what is read at its end, which is the value before the point, or at a sum that tests the
-/// certificate. The task is `Goal`. `Memory` comes where memory runs out, beside the first refusal alone.
+/// certificate. The task is `Goal`. `Memory` comes where memory runs out once names and rows refuse
+/// nothing, or as the missing name is copied. `PivotLimit` never comes where `most_bases` of the numbers of rows and of ports
+/// is at most `most`.
 pub fn bound(
     alloc: Global,
     contract: &Contract,
@@ -127,6 +133,8 @@ pub fn bound(
     ensures refused { IfOk result (λ _. due_bound contract.now goal.now.names ≡ None) }
     ensures memory { IfErr result (λ fault. fault ≡ BoundFault.Memory
         → (due_bound contract.now goal.now.names ≡ None) ⊎ IsSome (first_missing (ports contract.now) goal.now.names)) }
+    ensures unlimited { HasFewBases (row_count contract.now) (length (ports contract.now)) most
+        → (place : Place) → result ≡ Err (BoundFault.PivotLimit place) → ⊥ }
 {
     if let Some(name) = first_missing_port(contract, &goal.names) {
         return match name.copy(alloc) {

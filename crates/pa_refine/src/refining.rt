@@ -1,10 +1,12 @@
 // Whether a contract refines another one.
-ghost use Rattle.std.specs.Prelude.{◌≡◌, ◌≤◌, ◌+◌, IfErr, IfOk, None, length};
+ghost use Rattle.std.specs.Prelude.{◌≡◌, ◌≤◌, ◌+◌, Err, IfErr, IfOk, None, length};
 ghost use Rattle.pa_math.specs.Answers.{IsAnswer};
 ghost use Rattle.pa_meaning.specs.Contracts.{ports};
 ghost use Rattle.pa_tableau.specs.Work.{HasRoom};
 ghost use Rattle.pa_contract.specs.Merge.{row_count};
 ghost use Rattle.pa_holds.specs.Refusals.{due_refine};
+ghost use Rattle.pa_row.specs.declared.place.Place.{Place};
+ghost use Rattle.pa_farkas.specs.FewBases.{HasFewBases};
 ghost use Rattle.pa_refine.specs.Meant.{HoldsAsRefined, IsTrueOfRefining};
 ghost use Rattle.pa_refine.specs.Refining as spec;
 ghost use Rattle.pa_refine.specs.Seen.{HaveColumns, IsCovering};
@@ -131,6 +133,8 @@ fn refined(
     ensures exact { IsAnswer RefineFault.Memory (spec.covering_of (spec.lists_of left.now right.now) most) result }
     ensures truth { IfOk result (IsTrueOfRefining left.now right.now) }
     ensures printed { IfOk result (HoldsAsRefined left.now right.now) }
+    ensures unlimited { HasFewBases (row_count left.now + row_count right.now) (length (ports left.now)) most
+        → (place : Place) → result ≡ Err (RefineFault.PivotLimit place) → ⊥ }
 {
     show_well_formed(left);
     show_well_formed(right);
@@ -147,7 +151,8 @@ fn refined(
 /// Refused, in this order, exactly where the inputs or the outputs are not the same names (`PortsDiffer`), and where the
 /// contracts have more than 4,096 rows together (`Load`); then `PivotLimit` and `Wide` at the first row where they come,
 /// with their place as `pa_farkas::implied` gives it: the task is `Cover`, and the rows are numbered through. `Memory` comes
-/// only where neither ports nor rows refuse.
+/// only where neither ports nor rows refuse. `PivotLimit` never comes where `most_bases` of the numbers of rows, of both
+/// together, and of ports is at most `most`.
 pub fn refine(
     alloc: Global,
     left: &Contract,
@@ -160,6 +165,8 @@ pub fn refine(
     ensures printed { IfOk result (HoldsAsRefined left.now right.now) }
     ensures refused { IfOk result (λ _. due_refine left.now right.now ≡ None) }
     ensures memory { IfErr result (λ fault. fault ≡ RefineFault.Memory → due_refine left.now right.now ≡ None) }
+    ensures unlimited { HasFewBases (row_count left.now + row_count right.now) (length (ports left.now)) most
+        → (place : Place) → result ≡ Err (RefineFault.PivotLimit place) → ⊥ }
 {
     if !have_same_ports(left, right) {
         return Err(RefineFault::PortsDiffer);

@@ -214,7 +214,15 @@ a / b / 1 5, -1 5 / -1 1 1, 1 -1 1 | a / b / 1 4, -1 2 / 0 1 5, 0 -1 2 | 200 | n
 a / b / 1 3 / -1 1 0 | a / b / 2 7, -1 0 / 0 1 3 | 200 | no assume 0 point 2 7 0
 a / b /  / 0 1 1 | a / b /  / 0 1 1, 1 1 1 | 200 | no guarantee 1 point 1 1 1
 a / b c / 1 1 / 1 -1 1 2, 0 1 1 3, -1 0 2 1 | a / c b / 1 1, -2 1 / 0 3 -1 10, 1 2 1 9, 1 0 0 2 | 200 | yes; assume 1 0:1; guarantee 1 2:1 4:1; guarantee 2 0:3 3:2 4:1; guarantee 1 0:1
- / x /  / 2 1 |  / x /  / 2 1 | 0 | pivot-limit cover 0 a";
+ / x /  / 2 1 |  / x /  / 2 1 | 0 | pivot-limit cover 0 a
+ / x / 5, 1 / 1 2 |  / x /  / 0 4 | 0 | pivot-limit cover 2 a
+ / x / 0, 5 / -2 0 |  / x /  / 2 5 | 0 | pivot-limit cover 2 b
+ / x y z / 0 / 0 0 0 0, -1 0 999999999999999998 1, 999999999999999989 0 1 1 |  / x y z /  / 0 0 1 0 | 200 | wide cover 1 a pivot 2 2 5
+ / x y z / 0 / 0 -1 999999999999999989 0, -999999999999999998 0 0 1, 0 999999999999999999 0 1 |  / x y z /  / 0 0 1 0 | 200 | wide cover 1 a read
+ / x y z / 0 / -1 0 0 1, 999999999999999997 0 999999999999999999 1, 0 999999999999999997 1 1 |  / x y z /  / 0 0 1 0 | 200 | wide cover 1 a check
+ / x y z / 0 / 1 999999999999999998 1 1, 999999999999999997 1 0 0, 1 0 0 -5 |  / x y z /  / 0 0 1 0 | 200 | wide cover 1 b pivot 2 3 2
+ / x y z / 0 / 0 999999999999999989 0 1, 999999999999999998 1 1 1, 0 0 0 0 |  / x y z /  / 0 0 1 0 | 200 | wide cover 1 b read
+ / x y z / 0 / 999999999999999989 999999999999999997 0 1, 0 0 0 1 |  / x y z /  / 0 0 1 0 | 200 | wide cover 1 b check";
 
 // A contract, a goal, the number of pivots, and the bound.
 const BOUNDS: &str = "\
@@ -288,4 +296,38 @@ fn goals_have_values_with_certificates(rt: HostRuntime) {
     for line in BOUNDS.lines() {
         assert_bound(&rt, rt.alloc(), line);
     }
+}
+
+// A contract with this many guarantees, each another bound of its one output.
+fn with_guarantees(rt: &impl Abort, alloc: Global, count: u16) -> Contract {
+    let mut guarantees = Vec::new(alloc);
+    for bound in 0..count {
+        let mut c = Vec::new(alloc);
+        c.push(1).expect(rt, "memory");
+        let row = Row::checked(c, i128::from(bound)).expect(rt, "a row");
+        guarantees.push(row).expect(rt, "memory");
+    }
+    let inputs = Names::new(alloc);
+    let outputs = names_of(rt, alloc, "x");
+    let columns = (inputs.len() + outputs.len()) as usize;
+    assert!(rt; have_columns(&guarantees, columns) && guarantees.len() < 5000);
+    make_from(alloc, inputs, outputs, Vec::new(alloc), guarantees).expect(rt, "a contract")
+}
+
+#[test]
+fn more_rows_than_an_operation_takes_are_refused(rt: HostRuntime) {
+    let alloc = rt.alloc();
+    let half = with_guarantees(&rt, alloc, 2048);
+    let more = with_guarantees(&rt, alloc, 2049);
+    let text = refined_text(alloc, refine(alloc, &half, &half, 0)).expect(&rt, "memory");
+    assert_eq!(rt; text.as_str(), "pivot-limit cover 0 a");
+    let text = refined_text(alloc, refine(alloc, &half, &more, 0)).expect(&rt, "memory");
+    assert_eq!(rt; text.as_str(), "rows 4097");
+    let goal = read_plain(alloc, b"x").expect(&rt, "a goal");
+    let full = with_guarantees(&rt, alloc, 4096);
+    let text = bounded_text(alloc, bound(alloc, &full, &goal, false, 0)).expect(&rt, "memory");
+    assert_eq!(rt; text.as_str(), "pivot-limit goal a");
+    let over = with_guarantees(&rt, alloc, 4097);
+    let text = bounded_text(alloc, bound(alloc, &over, &goal, false, 0)).expect(&rt, "memory");
+    assert_eq!(rt; text.as_str(), "rows 4097");
 }
