@@ -1,14 +1,19 @@
--- What a merge, a test, a refinement and a bound tell is true, and which refusal is due where they refuse.
-use Rattle.std.proofs.Common.{◌≡◌, refl, sym, subst, ap, ◌∙◌, ◌+◌, ◌<◌, ℕ, Bool, true, false, cond, List, ◌++◌, length, inl, inr}
-use Rattle.std.proofs.Common.{Option, Some, None, Result, Ok, Err, IfOk, arith}
+-- What a merge, a test, a refinement, a bound and a hiding tell holds as it is printed, and each refusal is the one that is due, or at a
+-- place that the operation has under the limits in force.
+use Rattle.std.proofs.Common.{◌≡◌, refl, sym, subst, ap, ◌∙◌, ◌⊎◌, ◌≤◌, ℕ, zero, suc, Bool, true, false, cond, List, ◌++◌, length, inl, inr, All}
+use Rattle.std.proofs.Common.{Option, Some, None, Result, Ok, Err, IfOk}
 use Rattle.std.specs.Prelude.{IsErrOf, position}
+use lib.IntN.{pos}
+use lib.Signed.{◌≤ℤ◌}
+use Rattle.pa_ring.specs.Sums.{dot}
 use Rattle.pa_math.specs.Answers.{IsAnswer, given}
 use Rattle.pa_meaning.specs.Rows.{Point}
-use Rattle.pa_meaning.specs.Merge.{IsMerge}
 use Rattle.pa_meaning.specs.Contracts.{Name, Contract, ports}
 use Rattle.pa_meaning.specs.Bounds.{Goal}
 use Rattle.pa_witness.specs.Steps.{Two}
-use Rattle.pa_row.specs.declared.place.Task.TheVariants.{Cover}
+use Rattle.pa_row.specs.declared.place.Group.TheVariants as group
+use Rattle.pa_row.specs.declared.place.Task.{Task}
+use Rattle.pa_row.specs.declared.place.Task.TheVariants.{Cover, Filter}
 use Rattle.pa_row.specs.declared.place.Task.TheVariants as task
 use Rattle.pa_row.specs.declared.place.Sub.{Sub}
 use Rattle.pa_row.specs.declared.place.Sub.TheVariants.{Main, Base}
@@ -23,21 +28,20 @@ use Rattle.pa_contract.specs.declared.fault.MergeFault.{MergeFault}
 use Rattle.pa_contract.specs.declared.fault.MergeFault.TheVariants as merging
 use Rattle.pa_contract.specs.declared.fault.TestFault.{TestFault}
 use Rattle.pa_contract.specs.declared.fault.TestFault.TheVariants as testing
-use Rattle.pa_contract.proofs.Meets.{merged_is_merge}
-use Rattle.pa_contract.proofs.Words.{tested_is_tested}
 use Rattle.pa_script.specs.Ops.{IsPointOf, IsGoal}
 use Rattle.pa_cert.specs.Tables.{Limits}
-use Rattle.pa_cert.specs.declared.answer.Answer.TheVariants.{Yes, NoAssumption, NoGuarantee}
+use Rattle.pa_cert.specs.Lists.{HiddenAnswer}
 use Rattle.pa_cert.specs.declared.answer.LineAnswer.{LineAnswer}
 use Rattle.pa_cert.specs.declared.answer.LineAnswer.TheVariants.{Answered as AnsweredBy}
-use Rattle.pa_holds.specs.Limits.{HasSpot, HasProblem, SpotFits, PlaceFits, PivotsFit, TaskFits}
-use Rattle.pa_holds.specs.Questions.{Question, Merging, Testing, Refining, Bounding}
-use Rattle.pa_holds.specs.Answers.{IsTrueAnswer}
+use Rattle.pa_holds.specs.Bounded.{all_rows, goal_row, over_columns, GetsBetter}
+use Rattle.pa_holds.specs.Limits.{HasSpot, HasProblem, SolvesAProblem, SpotFits, PlaceFits, PivotsFit, StepRowFits, TaskFits}
+use Rattle.pa_holds.specs.Questions.{Question, Merging, Testing, Refining, Bounding, Hiding}
+use Rattle.pa_holds.specs.Answers.{HoldsAsPrinted}
 use Rattle.pa_holds.specs.Refusals.{first_missing, due_refine, due_bound}
-use Rattle.pa_holds.proofs.Refusals.{merge_clear, merge_computed, bound_among}
-use Rattle.pa_holds.proofs.Answers.{printed_is_true}
-use Rattle.pa_holds.proofs.Merging.{none_due, merge_is_true, clash_is_true, many_ports_is_true, many_rows_is_true}
-use Rattle.pa_holds.proofs.Tested.{test_answer_is_true, wide_test_is_true, unknown_port_is_true}
+use Rattle.pa_holds.proofs.Merging.{merge_holds, clash_due, many_ports_due, many_rows_due}
+use Rattle.pa_holds.proofs.Tested.{test_holds, wide_test_holds, unknown_port_due}
+use Rattle.pa_farkas.proofs.Defined.{IsSolved}
+use Rattle.pa_farkas.proofs.Thinnings.{IsCleanPlace, IsFilterPlace}
 use Rattle.pa_refine.specs.declared.answer.Refined.{Refined}
 use Rattle.pa_refine.specs.declared.answer.Refined.TheVariants as refined
 use Rattle.pa_refine.specs.declared.answer.Bounded.{Bounded}
@@ -46,18 +50,23 @@ use Rattle.pa_refine.specs.declared.fault.RefineFault.{RefineFault}
 use Rattle.pa_refine.specs.declared.fault.RefineFault.TheVariants as refining
 use Rattle.pa_refine.specs.declared.fault.BoundFault.{BoundFault}
 use Rattle.pa_refine.specs.declared.fault.BoundFault.TheVariants as bounding
-use Rattle.pa_refine.specs.Meant.{HoldsAsRefined, HoldsAsBounded, IsTrueOfBounding}
+use Rattle.pa_refine.specs.Meant.{HoldsAsRefined, HoldsAsBounded}
 use Rattle.pa_refine.specs.Refining.{refined_of}
 use Rattle.pa_refine.specs.Bounding.{bounded_of}
-use Rattle.pa_answers.specs.Answers.{HasColumns, merge_answer, words_answer, test_answer, at_ports, refine_answer, refined_answer, bound_answer, bounded_answer}
-use Rattle.pa_farkas.proofs.Defined.{IsSolved}
 use Rattle.pa_refine.proofs.Defined.{RefineTells, refine_tells, BoundTells, bound_tells}
-use Rattle.pa_refine.proofs.Meant.{bounded_true}
+use Rattle.pa_elim.proofs.Defined.{IsPairsPlace, IsStepRow}
+use Rattle.pa_compose.specs.declared.fault.HideFault.{HideFault}
+use Rattle.pa_compose.specs.declared.fault.HideFault.TheVariants as hiding
+use Rattle.pa_compose.specs.Hiding.{hidden_names, hidden_of}
+use Rattle.pa_compose.proofs.Defined.{HideTells, hide_tells}
+use Rattle.pa_answers.specs.Answers.{HasColumns, merge_answer, words_answer, test_answer, at_ports, refine_answer, refined_answer, bound_answer, bounded_answer}
+use Rattle.pa_answers.specs.Answers.{hide_answer, heading_of}
+use Rattle.pa_answers.proofs.Headings.{heading_over, heading_along}
 
--- the question is answered, and the answer is true
-abbrev pub IsTrueTo : Question → LineAnswer → Type 0
-IsTrueTo question (AnsweredBy answer) = IsTrueAnswer question answer
-IsTrueTo question answer = ⊥
+-- the question is answered, and the answer holds as it is printed under the limits in force
+abbrev pub HoldsTo : Limits → Question → LineAnswer → Type 0
+HoldsTo most question (AnsweredBy answer) = HoldsAsPrinted Two most question answer
+HoldsTo most question answer = ⊥
 
 -- ---- want of memory is never computed
 never_memory : (clash : Option Name) (wide long : Bool) (n k : ℕ) (m : Contract)
@@ -72,157 +81,168 @@ never_memory_words : (row : Option ℕ) (t : Tested) → given (Ok t) row (λ i.
 never_memory_words None t h = absurd (cc)
 never_memory_words (Some row) t h = absurd (cc)
 
--- ---- merges
-module _ (a b : Contract) (wa : IsWellFormed a) (wb : IsWellFormed b) where
-  is_merge : (m : Contract) → merge_of a b ≡ Ok m → IsMerge a b m
-  is_merge m is =
-      let none = none_due a b m is in
-      let e : Ok (merged a b) ≡ Ok m = sym (merge_computed a b none) ∙ is in
-      let same : merged a b ≡ m = cc in
-      subst (IsMerge a b) same (merged_is_merge a b wa.distinct wb.distinct (merge_clear a b none))
-
-  pub merge_true : (r : Result Contract MergeFault) → merge_of a b ≡ r → IsTrueTo (Merging a b) (merge_answer r)
-  merge_true (Ok m) is = merge_is_true a b m is (is_merge m is)
-  merge_true (Err (merging.PortClash name)) is = clash_is_true a b name is
-  merge_true (Err (merging.VariableLimit count)) is = many_ports_is_true a b count is
-  merge_true (Err (merging.Load count)) is = many_rows_is_true a b count is
-  merge_true (Err merging.Memory) is = absurd (never_memory (first_clash a b) _ _ _ _ (merged a b) is)
-
--- ---- tests
 -- where each name is a port
 pub test_known : (c : Contract) (names : List Name) (x : Point) → first_missing (ports c) names ≡ None
     → test_answer c names x ≡ words_answer (tested c (at_ports c names x))
 test_known c names x h = rw h refl
 
-module _ (c : Contract) (names : List Name) (x : Point) (formed : IsWellFormed c) (point : IsPointOf names x) where
-  words_true : first_missing (ports c) names ≡ None → (r : Result Tested TestFault) → tested c (at_ports c names x) ≡ r
-      → IsTrueTo (Testing c names x) (words_answer r)
-  words_true known (Ok t) is =
-      test_answer_is_true c names x point.positive (at_ports c names x) t formed known refl (tested_is_tested c (at_ports c names x) t is)
-  words_true known (Err (testing.Wide place)) is = wide_test_is_true c names x (at_ports c names x) place known is
-  words_true known (Err testing.Memory) is =
-      absurd (never_memory_words (position (passes_at (at_ports c names x)) (c.assumptions ++ c.guarantees))
-      (words_of c.assumptions c.guarantees (at_ports c names x)) is)
+-- where a problem that is solved stops, under the limit of pivots
+solved_spot : (most : ℕ) (t : Task) (s : Spot) → SolvesAProblem t → IsSolved most s → HasSpot t s
+solved_spot most t spot.Load solves h = absurd h
+solved_spot most t (spot.Pivot pivot row column) solves h = solves
+solved_spot most t spot.Read solves h = solves
+solved_spot most t spot.Check solves h = tt
 
-  test_by : (missing : Option Name) → first_missing (ports c) names ≡ missing → IsTrueTo (Testing c names x) (test_answer c names x)
-  test_by (Some name) is = rw is (unknown_port_is_true c names x name is)
-  test_by None is = subst (IsTrueTo (Testing c names x)) (sym (test_known c names x is)) (words_true is (tested c (at_ports c names x)) refl)
+spot_fits : (most : Limits) (s : Spot) → IsSolved most.pivots s → SpotFits most s
+spot_fits most spot.Load h = tt
+spot_fits most (spot.Pivot pivot row column) h = h
+spot_fits most spot.Read h = tt
+spot_fits most spot.Check h = tt
 
-  pub test_true : IsTrueTo (Testing c names x) (test_answer c names x)
-  test_true = test_by (first_missing (ports c) names) refl
-
--- ---- places that an operation has, under some limits
-abbrev limits_of : Spot → Limits
-limits_of (spot.Pivot pivot row column) = record { rows = 0; pivots = pivot }
-limits_of s = record { rows = 0; pivots = 0 }
-
-spot_fits : (s : Spot) → SpotFits (limits_of s) s
-spot_fits spot.Load = tt
-spot_fits (spot.Pivot pivot row column) = omega (arith)
-spot_fits spot.Read = tt
-spot_fits spot.Check = tt
-
-module _ (row : ℕ) where
-  cover_problem : (s : Sub) → HasProblem (Cover row) s
-  cover_problem Main = tt
-  cover_problem Base = tt
-
-  cover_spot : (s : Spot) → IsSolved s → HasSpot (Cover row) s
-  cover_spot spot.Load h = h
-  cover_spot (spot.Pivot pivot line column) h = tt
-  cover_spot spot.Read h = tt
-  cover_spot spot.Check h = tt
+-- a problem stands at each of these two tasks with a base one beside it
+cover_problem : (row : ℕ) (s : Sub) → HasProblem (Cover row) s
+cover_problem row Main = tt
+cover_problem row Base = tt
 
 goal_problem : (s : Sub) → HasProblem task.Goal s
 goal_problem Main = tt
 goal_problem Base = tt
 
-goal_spot : (s : Spot) → IsSolved s → HasSpot task.Goal s
-goal_spot spot.Load h = h
-goal_spot (spot.Pivot pivot line column) h = tt
-goal_spot spot.Read h = tt
-goal_spot spot.Check h = tt
+module _ (most : Limits) where
+  -- ---- merges
+  module _ (a b : Contract) where
+    merge_by : (r : Result Contract MergeFault) → merge_of a b ≡ r → HoldsTo most (Merging a b) (merge_answer r)
+    merge_by (Ok m) is = merge_holds a b Two most m is
+    merge_by (Err (merging.PortClash name)) is = clash_due a b name is
+    merge_by (Err (merging.VariableLimit count)) is = many_ports_due a b count is
+    merge_by (Err (merging.Load count)) is = many_rows_due a b count is
+    merge_by (Err merging.Memory) is = absurd (never_memory (first_clash a b) _ _ _ _ (merged a b) is)
 
--- ---- refinements
-module _ (a b : Contract) where
-  abbrev covered : ℕ
-  covered = length a.assumptions + length b.guarantees
+    pub merge_told : HoldsTo most (Merging a b) (merge_answer (merge_of a b))
+    merge_told = merge_by (merge_of a b) refl
 
-  cover_pivots : (p : Place) (row : ℕ) → row < covered → p.task ≡ Cover row → (most : Limits) × PivotsFit most (Refining a b) p.task p.sub
-  cover_pivots p row low is = (
-    record { rows = 0; pivots = 0 },
-    subst (λ t. PivotsFit (record { rows = 0; pivots = 0 }) (Refining a b) t p.sub) (sym is)
-        (record { task_fits = low; solves = tt; problem = cover_problem row p.sub }),
-  )
+  -- ---- tests
+  module _ (c : Contract) (names : List Name) (x : Point) (formed : IsWellFormed c) (point : IsPointOf names x) where
+    words_by : first_missing (ports c) names ≡ None → (r : Result Tested TestFault) → tested c (at_ports c names x) ≡ r
+        → HoldsTo most (Testing c names x) (words_answer r)
+    words_by known (Ok t) is = test_holds c names x Two most point.positive t formed known is
+    words_by known (Err (testing.Wide place)) is = wide_test_holds c names x Two most (at_ports c names x) place known is
+    words_by known (Err testing.Memory) is =
+        absurd (never_memory_words (position (passes_at (at_ports c names x)) (c.assumptions ++ c.guarantees))
+        (words_of c.assumptions c.guarantees (at_ports c names x)) is)
 
-  cover_place : (p : Place) (row : ℕ) → row < covered → p.task ≡ Cover row → IsSolved p.spot → (most : Limits) × PlaceFits most (Refining a b) p
-  cover_place p row low is solved = (
-    limits_of p.spot,
-    record {
-      task = subst (TaskFits (limits_of p.spot) (Refining a b)) (sym is) low;
-      problem = subst (λ t. HasProblem t p.sub) (sym is) (cover_problem row p.sub);
-      spot = subst (λ t. HasSpot t p.spot) (sym is) (cover_spot row p.spot solved);
-      pivot = spot_fits p.spot;
-    },
-  )
+    test_by : (missing : Option Name) → first_missing (ports c) names ≡ missing → HoldsTo most (Testing c names x) (test_answer c names x)
+    test_by (Some name) is = rw is (unknown_port_due c names x name is)
+    test_by None is =
+        subst (HoldsTo most (Testing c names x)) (sym (test_known c names x is)) (words_by is (tested c (at_ports c names x)) refl)
 
-  module _ (wa : IsWellFormed a) (wb : IsWellFormed b) where
-    decided : (r : Refined) → due_refine a b ≡ None → HoldsAsRefined a b r → IsTrueTo (Refining a b) (refined_answer a r)
-    decided (refined.Yes assumptions guarantees) none h =
-        printed_is_true Two (record { rows = 0; pivots = 0 }) (Refining a b) (Yes assumptions guarantees) (wa.distinct, wb.distinct) (none, h)
-    decided (refined.No (Assumption row) x) none h =
-        printed_is_true Two (record { rows = 0; pivots = 0 }) (Refining a b) (NoAssumption row (record { names = ports a; at = x }))
-        (wa.distinct, wb.distinct) (none, h)
-    decided (refined.No (Guarantee row) x) none h =
-        printed_is_true Two (record { rows = 0; pivots = 0 }) (Refining a b) (NoGuarantee row (record { names = ports a; at = x }))
-        (wa.distinct, wb.distinct) (none, h)
+    pub test_told : HoldsTo most (Testing c names x) (test_answer c names x)
+    test_told = test_by (first_missing (ports c) names) refl
 
-    refine_by : (r : Result Refined RefineFault) → RefineTells a b r → IsTrueTo (Refining a b) (refine_answer a r)
-    refine_by (Ok r) (none, h) = decided r none h
+  -- ---- a place of a problem
+  module _ (question : Question) (p : Place) (t : Task) (is : p.task ≡ t) (fits : TaskFits most question t) (solves : SolvesAProblem t)
+      (problem : HasProblem t p.sub) where
+    pivots_fit : PivotsFit most question p.task p.sub
+    pivots_fit = subst (λ t. PivotsFit most question t p.sub) (sym is) (record { task_fits = fits; solves = solves; problem = problem })
+
+    place_fits : IsSolved most.pivots p.spot → PlaceFits most question p
+    place_fits solved = record {
+      task = subst (TaskFits most question) (sym is) fits;
+      problem = subst (λ t. HasProblem t p.sub) (sym is) problem;
+      spot = subst (λ t. HasSpot t p.spot) (sym is) (solved_spot most.pivots t p.spot solves solved);
+      pivot = spot_fits most p.spot solved;
+    }
+
+  -- ---- refinements
+  module _ (a b : Contract) (formed : IsWellFormed a) where
+    shown : (r : Refined) → due_refine a b ≡ None → HoldsAsRefined a b r → HoldsTo most (Refining a b) (refined_answer a r)
+    shown (refined.Yes assumptions guarantees) none h = (none, h)
+    shown (refined.No (Assumption row) x) none h = (none, h)
+    shown (refined.No (Guarantee row) x) none h = (none, h)
+
+    refine_by : (r : Result Refined RefineFault) → RefineTells most.pivots a b r → HoldsTo most (Refining a b) (refine_answer a r)
+    refine_by (Ok r) (none, h) = shown r none h
     refine_by (Err refining.Memory) h = absurd h
     refine_by (Err refining.PortsDiffer) h = h
     refine_by (Err (refining.Load count)) h = h
-    refine_by (Err (refining.PivotLimit p)) (none, (row, low, is)) = (none, cover_pivots p row low is)
-    refine_by (Err (refining.Wide p)) (none, (row, low, is, solved)) = (none, cover_place p row low is solved)
+    refine_by (Err (refining.PivotLimit p)) (none, (row, low, is)) = (none, pivots_fit (Refining a b) p (Cover row) is low tt (cover_problem row p.sub))
+    refine_by (Err (refining.Wide p)) (none, (row, low, is, solved)) =
+        (none, place_fits (Refining a b) p (Cover row) is low tt (cover_problem row p.sub) solved)
 
-    pub refine_true : (most : ℕ) → IsTrueTo (Refining a b) (refine_answer a (refined_of a b most))
-    refine_true most = refine_by (refined_of a b most) (refine_tells a b wa most)
+    pub refine_told : HoldsTo most (Refining a b) (refine_answer a (refined_of a b most.pivots))
+    refine_told = refine_by (refined_of a b most.pivots) (refine_tells a b formed most.pivots)
 
--- ---- bounds
-module _ (c : Contract) (goal : Goal) (least : Bool) (formed : IsWellFormed c) (is_goal : IsGoal goal) where
-  goal_pivots : (p : Place) → p.task ≡ task.Goal → (most : Limits) × PivotsFit most (Bounding c goal least) p.task p.sub
-  goal_pivots p is = (
-    record { rows = 0; pivots = 0 },
-    subst (λ t. PivotsFit (record { rows = 0; pivots = 0 }) (Bounding c goal least) t p.sub) (sym is)
-        (record { task_fits = tt; solves = tt; problem = goal_problem p.sub }),
-  )
+  -- ---- bounds
+  module _ (c : Contract) (goal : Goal) (least : Bool) (formed : IsWellFormed c) (up : IsGoal goal) where
+    best : (r : Bounded) → due_bound c goal.names ≡ None → HoldsAsBounded c goal least r → HoldsTo most (Bounding c goal least) (bounded_answer c r)
+    best (bounded.Value num den w x) none h = (none, h)
+    best (bounded.Unbounded x d) none h =
+        let over : over_columns (ports c) (heading_of (ports c) d) ≡ d = heading_over (ports c) d formed.distinct h.columns in (
+          none,
+          (
+            record {
+              at = h.at;
+              met = h.met;
+              level = subst (λ ds. All (λ r. dot r.c ds ≤ℤ pos 0) (all_rows c)) (sym over) h.level;
+              better = subst (GetsBetter least (goal_row c goal)) (sym over) h.better;
+            },
+            heading_along (ports c) d formed.distinct h.columns,
+          ),
+        )
+    best (bounded.Nothing w) none h = (none, h)
 
-  goal_place : (p : Place) → p.task ≡ task.Goal → IsSolved p.spot → (most : Limits) × PlaceFits most (Bounding c goal least) p
-  goal_place p is solved = (
-    limits_of p.spot,
-    record {
-      task = subst (TaskFits (limits_of p.spot) (Bounding c goal least)) (sym is) tt;
-      problem = subst (λ t. HasProblem t p.sub) (sym is) (goal_problem p.sub);
-      spot = subst (λ t. HasSpot t p.spot) (sym is) (goal_spot p.spot solved);
-      pivot = spot_fits p.spot;
-    },
-  )
+    bound_by : (r : Result Bounded BoundFault) → BoundTells most.pivots c goal least r → HoldsTo most (Bounding c goal least) (bound_answer c r)
+    bound_by (Ok r) (none, h) = best r none h
+    bound_by (Err bounding.Memory) h = absurd h
+    bound_by (Err (bounding.UnknownPort name)) h = h
+    bound_by (Err (bounding.Load count)) h = h
+    bound_by (Err (bounding.PivotLimit p)) (none, is) = (none, pivots_fit (Bounding c goal least) p task.Goal is tt tt (goal_problem p.sub))
+    bound_by (Err (bounding.Wide p)) (none, is, solved) =
+        (none, place_fits (Bounding c goal least) p task.Goal is tt tt (goal_problem p.sub) solved)
 
-  best : (r : Bounded) → due_bound c goal.names ≡ None → IsTrueOfBounding c goal least r → IsTrueTo (Bounding c goal least) (bounded_answer c r)
-  best (bounded.Value num den w x) none h = (none, h)
-  best (bounded.Unbounded x d) none h = (none, h)
-  best (bounded.Nothing w) none h = (none, h)
+    pub bound_told : HoldsTo most (Bounding c goal least) (bound_answer c (bounded_of c goal least most.pivots))
+    bound_told = bound_by (bounded_of c goal least most.pivots) (bound_tells c goal least formed up.positive most.pivots)
 
-  bound_by : (r : Result Bounded BoundFault) → BoundTells c goal least r → IsTrueTo (Bounding c goal least) (bound_answer c r)
-  bound_by (Ok r) (none, h) = best r none (bounded_true c goal least formed is_goal (bound_among c goal.names none) r h)
-  bound_by (Err bounding.Memory) h = absurd h
-  bound_by (Err (bounding.UnknownPort name)) h = h
-  bound_by (Err (bounding.Load count)) h = h
-  bound_by (Err (bounding.PivotLimit p)) (none, is) = (none, goal_pivots p is)
-  bound_by (Err (bounding.Wide p)) (none, is, solved) = (none, goal_place p is solved)
+  -- ---- hidings
+  module _ (c : Contract) (names : List Name) (formed : IsWellFormed c) (small : most.rows ≤ 4096) where
+    abbrev gone : ℕ
+    gone = length (hidden_names c names)
 
-  pub bound_true : (most : ℕ) → IsTrueTo (Bounding c goal least) (bound_answer c (bounded_of c goal least most))
-  bound_true most = bound_by (bounded_of c goal least most) (bound_tells c goal least formed is_goal.positive most)
+    -- the row fits, in a clean, a filter and a sum of a step
+    row_fits : (step row : ℕ) → IsStepRow most.rows (length c.guarantees) gone step row → StepRowFits most gone (length c.guarantees) step row
+    row_fits zero row h = h
+    row_fits (suc step) row h = h
+
+    pairs_fit : (step row : ℕ) → IsStepRow most.rows (length c.guarantees) gone step row → (p : Place) → IsPairsPlace step row p
+        → PlaceFits most (Hiding c names) p
+    pairs_fit zero row fits p is = absurd is
+    pairs_fit (suc step) row fits p is =
+        subst (PlaceFits most (Hiding c names)) (sym is) (record { task = fits; problem = tt; spot = tt; pivot = tt })
+
+    step_problem : (step row : ℕ) (s : Sub) → s ≡ Main → HasProblem (Filter (group.Step step) row) s
+    step_problem step row s main = subst (HasProblem (Filter (group.Step step) row)) (sym main) tt
+
+    hide_place : (p : Place) (step row : ℕ) → IsStepRow most.rows (length c.guarantees) gone step row
+        → IsCleanPlace (group.Step step) row p ⊎ IsFilterPlace most.pivots (group.Step step) row p ⊎ IsPairsPlace step row p
+        → PlaceFits most (Hiding c names) p
+    hide_place p step row fits (inl is) =
+        subst (PlaceFits most (Hiding c names)) (sym is) (record { task = row_fits step row fits; problem = tt; spot = tt; pivot = tt })
+    hide_place p step row fits (inr (inl (is, main, solved))) =
+        place_fits (Hiding c names) p (Filter (group.Step step) row) is (row_fits step row fits) tt (step_problem step row p.sub main) solved
+    hide_place p step row fits (inr (inr is)) = pairs_fit step row fits p is
+
+    hide_by : (r : Result HiddenAnswer HideFault) → HideTells most.rows most.pivots c names r → HoldsTo most (Hiding c names) (hide_answer r)
+    hide_by (Ok a) (none, h) = (none, h)
+    hide_by (Err hiding.Memory) h = absurd h
+    hide_by (Err (hiding.NotOutput name)) h = h
+    hide_by (Err (hiding.Load count)) h = h
+    hide_by (Err (hiding.RowLimit step count)) (none, h) = (none, h)
+    hide_by (Err (hiding.PivotLimit p)) (none, (step, row, fits, is, main)) =
+        (none, pivots_fit (Hiding c names) p (Filter (group.Step step) row) is (row_fits step row fits) tt (step_problem step row p.sub main))
+    hide_by (Err (hiding.Wide p)) (none, (step, row, fits, at)) = (none, hide_place p step row fits at)
+
+    pub hide_told : HoldsTo most (Hiding c names) (hide_answer (hidden_of c names most.rows most.pivots))
+    hide_told = hide_by (hidden_of c names most.rows most.pivots) (hide_tells most.rows most.pivots c names small formed)
 
 -- ---- of a call's result
 -- the answer that is due, where it is settled
@@ -251,3 +271,9 @@ bound_columns c goal least (Ok (bounded.Value num den w x)) h = tt
 bound_columns c goal least (Ok (bounded.Unbounded x d)) h = h.columns
 bound_columns c goal least (Ok (bounded.Nothing w)) h = tt
 bound_columns c goal least (Err e) h = tt
+
+pub hide_answered : {E : Type 0} (c : Contract) (names : List Name) (rows pivots : ℕ) (r : Result HiddenAnswer HideFault)
+    → IsAnswer hiding.Memory (hidden_of c names rows pivots) r → (t : Result LineAnswer E) → IfOk t (λ x. x ≡ hide_answer r)
+    → IfOk t (λ _. ¬ IsErrOf r hiding.Memory) → IfOk t (λ x. x ≡ hide_answer (hidden_of c names rows pivots))
+hide_answered c names rows pivots r h (Ok x) is settled = is ∙ ap hide_answer (sym (due_is hiding.Memory (hidden_of c names rows pivots) r h settled))
+hide_answered c names rows pivots r h (Err e) is settled = tt

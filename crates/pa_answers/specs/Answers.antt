@@ -14,15 +14,15 @@ use Rattle.pa_contract.specs.declared.fault.TestFault.{TestFault}
 use Rattle.pa_contract.specs.declared.fault.TestFault.TheVariants as testing
 use Rattle.pa_script.specs.declared.op.ScriptLine.{ScriptLine}
 use Rattle.pa_script.specs.declared.op.Op.{Op}
-use Rattle.pa_script.specs.declared.op.Op.TheVariants.{Merge, Test, Refine, Bound}
+use Rattle.pa_script.specs.declared.op.Op.TheVariants.{Merge, Test, Refine, Bound, Hide}
 use Rattle.pa_script.specs.Ops.{operands}
 use Rattle.pa_row.specs.declared.place.Place.{Place}
 use Rattle.pa_row.specs.declared.step.Broken.{Broken}
 use Rattle.pa_row.specs.declared.step.Broken.TheVariants.{Assumption, Guarantee}
-use Rattle.pa_cert.specs.Lists.{Located, Heading}
-use Rattle.pa_cert.specs.declared.refusal.NameRefusal.TheVariants.{UnknownPort, PortClash, PortsDiffer, Variables, Rows}
+use Rattle.pa_cert.specs.Lists.{Located, Heading, HiddenAnswer}
+use Rattle.pa_cert.specs.declared.refusal.NameRefusal.TheVariants.{UnknownPort, PortClash, NotOutput, PortsDiffer, Variables, Rows}
 use Rattle.pa_cert.specs.declared.answer.Answer.TheVariants.{Merged, TestedAs, Yes, NoAssumption, NoGuarantee, Value, Unbounded, Nothing}
-use Rattle.pa_cert.specs.declared.answer.Answer.TheVariants.{Refused, PivotLimit, TooWide}
+use Rattle.pa_cert.specs.declared.answer.Answer.TheVariants.{Hidden, Refused, RowLimit, PivotLimit, TooWide}
 use Rattle.pa_cert.specs.declared.answer.LineAnswer.{LineAnswer}
 use Rattle.pa_cert.specs.declared.answer.LineAnswer.TheVariants.{Set, Unknown, Taken, Answered as AnsweredBy}
 use Rattle.pa_cert.specs.Tables.{Table, Answered, advanced}
@@ -39,6 +39,9 @@ use Rattle.pa_refine.specs.declared.fault.BoundFault.TheVariants as bounding
 use Rattle.pa_refine.specs.Refining.{refined_of}
 use Rattle.pa_refine.specs.Bounding.{bounded_of}
 use Rattle.pa_refine.specs.Meant.{at_ports as located_at}
+use Rattle.pa_compose.specs.declared.fault.HideFault.{HideFault}
+use Rattle.pa_compose.specs.declared.fault.HideFault.TheVariants as hiding
+use Rattle.pa_compose.specs.Hiding.{hidden_of}
 
 -- what a merge tells; want of memory is no answer
 abbrev pub merge_answer : Result Contract MergeFault → LineAnswer
@@ -120,6 +123,17 @@ bound_answer c (Err (bounding.PivotLimit place)) = limited place
 bound_answer c (Err (bounding.Wide place)) = AnsweredBy (TooWide place)
 bound_answer c (Err bounding.Memory) = Set
 
+-- ---- hidings
+-- what a hiding tells
+abbrev pub hide_answer : Result HiddenAnswer HideFault → LineAnswer
+hide_answer (Ok a) = AnsweredBy (Hidden a)
+hide_answer (Err (hiding.NotOutput name)) = AnsweredBy (Refused (NotOutput name))
+hide_answer (Err (hiding.Load count)) = AnsweredBy (Refused (Rows count))
+hide_answer (Err (hiding.RowLimit step count)) = AnsweredBy (RowLimit step count)
+hide_answer (Err (hiding.PivotLimit place)) = limited place
+hide_answer (Err (hiding.Wide place)) = AnsweredBy (TooWide place)
+hide_answer (Err hiding.Memory) = Set
+
 -- ---- any line
 -- what an operation gives on the contracts that it names
 abbrev pub answer_on : Table → Op → List Contract → LineAnswer
@@ -127,6 +141,7 @@ answer_on table (Merge result left right) (a ∷ b ∷ []) = merge_answer (merge
 answer_on table (Test of names at) (c ∷ []) = test_answer c names at
 answer_on table (Refine left right) (a ∷ b ∷ []) = refine_answer a (refined_of a b table.limits.pivots)
 answer_on table (Bound of least goal) (c ∷ []) = bound_answer c (bounded_of c goal least table.limits.pivots)
+answer_on table (Hide result of names) (c ∷ []) = hide_answer (hidden_of c names table.limits.rows table.limits.pivots)
 answer_on table op contracts = Set
 
 -- the answer to an operation over a table: a contract that is not there, then a result's name that is not free, then what the

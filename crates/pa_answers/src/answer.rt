@@ -1,16 +1,19 @@
 // The answer to a script line.
 ghost use Rattle.std.specs.Prelude.{◌≡◌, IfOk, true, length};
 ghost use Rattle.pa_meaning.specs.Contracts.{ports};
+ghost use Rattle.pa_witness.specs.Steps.{Two};
+ghost use Rattle.pa_row.specs.Steps.{IsLimit};
 ghost use Rattle.pa_contract.specs.Merge.{merge_of};
 ghost use Rattle.pa_contract.specs.Testing.{tested};
 ghost use Rattle.pa_script.specs.Ops.{IsWellFormedOp};
 ghost use Rattle.pa_cert.specs.Tables.{CanAdvance};
-ghost use Rattle.pa_holds.specs.Tables.{IsTrueOf};
+ghost use Rattle.pa_holds.specs.Tables.{HoldsOver, IsTrueOf};
 ghost use Rattle.pa_answers.specs.Answers as spec;
 ghost use Rattle.pa_answers.specs.Answers.{AreFormed};
 ghost use Rattle.pa_answers.specs.Built.{is_built};
 
 use crate::bounding::bounded;
+use crate::hiding::hidden;
 use crate::point::at_ports;
 use crate::refining::refined;
 use crate::told::{refused, taken, too_wide, unknown, unknown_port};
@@ -156,6 +159,26 @@ fn bound_line(
     }
 }
 
+// The answer to a hiding.
+#[tactic(auto, using(crate::proofs::Truths::hide_given))]
+fn hide_line(
+    alloc: Global,
+    table: &Table,
+    name: &Name,
+    of: &Name,
+    names: &Names,
+) -> Result<LineAnswer, AllocError>
+    ensures { IfOk result (λ answer. answer ≡ spec.answer_of table.now (Op.Hide name.now of.now names.now)) }
+{
+    let Some(contract) = table.find(of) else {
+        return unknown(alloc, of);
+    };
+    if table.find(name).is_some() {
+        return taken(alloc, name);
+    }
+    hidden(alloc, contract, names, table.limits())
+}
+
 // The answer to the line's operation.
 fn answer_op(alloc: Global, table: &Table, op: &Op) -> Result<LineAnswer, AllocError>
     requires { is_built op.now ≡ true }
@@ -171,14 +194,22 @@ fn answer_op(alloc: Global, table: &Table, op: &Op) -> Result<LineAnswer, AllocE
         Op::Test { of, names, at } => test_line(alloc, table, of, names, at),
         Op::Refine { left, right } => refine_line(alloc, table, left, right),
         Op::Bound { of, least, goal } => bound_line(alloc, table, of, *least, goal),
-        Op::Hide { .. } | Op::Compose { .. } | Op::Quotient { .. } => unreachable!(),
+        Op::Hide { result, of, names } => hide_line(alloc, table, result, of, names),
+        Op::Compose { .. } | Op::Quotient { .. } => unreachable!(),
     }
+}
+
+// Shows a proof that the limit of rows is in its range, as the type of the limits says. Nothing is computed.
+fn show_limits(table: &Table)
+    ensures { IsLimit table.now.limits.rows }
+{
+    let _limits = table.limits();
 }
 
 /// The answer to a script line over the table. A refusal by names comes first: a contract that is not
 /// there (`Unknown`), then a result's name that is not free (`Taken`); then what the operation refuses or
-/// gives. The line asks for an operation that is built, and is well formed. The answer is true of a table of
-/// well-formed contracts, and the table can go past it.
+/// gives. The line asks for an operation that is built, and is well formed. Over a table of well-formed contracts the
+/// answer holds as it is printed, under the limits in force, and so is true; and the table can go past it.
 pub fn answer_line(
     alloc: Global,
     table: &Table,
@@ -187,8 +218,10 @@ pub fn answer_line(
     requires built { is_built line.now.op ≡ true }
     requires well_formed { IsWellFormedOp line.now.op }
     ensures answer { IfOk result (λ answer. answer ≡ spec.answer_of table.now line.now.op) }
+    ensures holds { AreFormed table.now → IfOk result (HoldsOver Two table.now line.now.op) }
     ensures truth { AreFormed table.now → IfOk result (IsTrueOf table.now line.now.op) }
     ensures advances { IfOk result (CanAdvance table.now line.now.op) }
 {
+    show_limits(table);
     answer_op(alloc, table, &line.op)
 }

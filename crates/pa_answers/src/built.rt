@@ -4,7 +4,7 @@ ghost use Rattle.pa_answers.specs.Built as spec;
 
 use pa_script::Op;
 
-/// Whether the operation is built so far: limits, merges, tests, refinements and bounds are.
+/// Whether the operation is built so far: limits, merges, tests, refinements, bounds and hidings are.
 pub fn is_built(op: &Op) -> bool
     ensures { result ≡ spec.is_built op.now }
 {
@@ -14,7 +14,8 @@ pub fn is_built(op: &Op) -> bool
         | Op::Merge { .. }
         | Op::Test { .. }
         | Op::Refine { .. }
-        | Op::Bound { .. } => true,
-        Op::Hide { .. } | Op::Compose { .. } | Op::Quotient { .. } => false,
+        | Op::Bound { .. }
+        | Op::Hide { .. } => true,
+        Op::Compose { .. } | Op::Quotient { .. } => false,
     }
 }

@@ -1,14 +1,16 @@
-//! The answer to a script line over a table of contracts, and that it is true.
+//! The answer to a script line over a table of contracts, and that it holds as it is printed.
 //!
-//! [`answer_line`] answers the operations that are built ([`is_built`]): a limit, a merge, a test, a refinement and a
-//! bound. Each answer is the one that `specs/Answers` defines, a refusal by names first; it is true by the meaning of
-//! `pa_holds` alone, and the table can go past it. [`answers_are_true`] says the same of all lines of a script, each over
-//! the table that the earlier answers leave. Read `specs/Answers` first.
+//! [`answer_line`] answers the operations that are built ([`is_built`]): a limit, a merge, a test, a refinement, a bound
+//! and a hiding. Each answer is the one that `specs/Answers` defines, a refusal by names first; it holds as it is printed, by
+//! the definitions of `pa_holds` alone, so it is true, and the table can go past it. [`answers_hold`] and
+//! [`answers_are_true`] say the same of all lines of a script, each over the table that the earlier answers leave. Read
+//! `specs/Answers` first.
 #![tactic(auto)]
 
 mod answer;
 mod bounding;
 mod built;
+mod hiding;
 mod laws;
 mod located;
 mod point;
@@ -17,4 +19,4 @@ mod told;
 
 pub use answer::answer_line;
 pub use built::is_built;
-pub use laws::answers_are_true;
+pub use laws::{answers_are_true, answers_hold};

@@ -1,5 +1,5 @@
--- The table that a diagram gives has well-formed contracts, no two with one name, so all answers to a script are true of it.
-use Rattle.std.proofs.Common.{◌≡◌, List, [], ◌∷◌, refl, subst, All, ◌&&◌, Bool, true, false}
+-- The table that a diagram gives has well-formed contracts, no two with one name, so all answers to a script hold over it, and are true of it.
+use Rattle.std.proofs.Common.{◌≡◌, List, [], ◌∷◌, refl, subst, All, ◌&&◌, Bool, true, false, arith}
 use Rattle.std.specs.List.{IsDistinct, list_all}
 use Rattle.std.specs.Str.{bytes_eq}
 use Rattle.std.proofs.lemmas.List.{map-append}
@@ -12,10 +12,12 @@ use Rattle.pa_contract.specs.WellFormed.{IsWellFormed}
 use Rattle.pa_script.specs.declared.op.ScriptLine.{ScriptLine}
 use Rattle.pa_script.specs.Ops.{IsWellFormedLine}
 use Rattle.pa_json.specs.Diagrams.{Diagram, IsDiagram, names_of}
-use Rattle.pa_holds.specs.Tables.{AreTrue}
+use Rattle.pa_witness.specs.Steps.{Two}
+use Rattle.pa_row.specs.Steps.{IsLimit}
+use Rattle.pa_holds.specs.Tables.{AreTrue, HoldEach}
 use Rattle.pa_answers.specs.Built.{is_built}
 use Rattle.pa_answers.specs.Answers.{AreFormed}
-use Rattle.pa_answers.proofs.Truths.{answers_true}
+use Rattle.pa_answers.proofs.Truths.{answers_hold, answers_true}
 use Rattle.pa_engine.specs.Inputs.{all_built}
 use Rattle.pa_engine.specs.Ends.{table_of, answers_of}
 
@@ -42,7 +44,15 @@ each_built (line ∷ lines) h = All-cons (λ l. is_built l.op ≡ true) line lin
     rest true e = e
     rest false e = absurd (cc)
 
--- all answers to a script over a diagram are true
+-- the limit of rows that no line has set is in its range
+first_limit : (d : Diagram) → IsLimit (table_of d).limits.rows
+first_limit d = record { least = omega arith; greatest = omega arith }
+
+-- all answers to a script over a diagram hold as they are printed, and are true
+pub diagram_holds : (d : Diagram) (lines : List ScriptLine) → AreFormed (table_of d) → all_built lines ≡ true → All IsWellFormedLine lines
+    → HoldEach Two (table_of d) (answers_of d lines)
+diagram_holds d lines formed built well_formed = answers_hold lines (table_of d) formed (first_limit d) (each_built lines built) well_formed
+
 pub diagram_answers : (d : Diagram) (lines : List ScriptLine) → AreFormed (table_of d) → all_built lines ≡ true → All IsWellFormedLine lines
     → AreTrue (table_of d) (answers_of d lines)
-diagram_answers d lines formed built well_formed = answers_true lines (table_of d) formed (each_built lines built) well_formed
+diagram_answers d lines formed built well_formed = answers_true lines (table_of d) formed (first_limit d) (each_built lines built) well_formed

@@ -13,7 +13,8 @@ use Rattle.pa_json.proofs.Describes.{described_clause, bytes_described}
 use Rattle.pa_script.specs.declared.op.ScriptLine.{ScriptLine}
 use Rattle.pa_script.specs.Script.{script_of}
 use Rattle.pa_cert.specs.AnswerText.{report_of}
-use Rattle.pa_holds.specs.Tables.{AreTrue}
+use Rattle.pa_witness.specs.Steps.{Two}
+use Rattle.pa_holds.specs.Tables.{AreTrue, HoldEach}
 use Rattle.pa_answers.proofs.Scripts.{lines_answered}
 use Rattle.pa_engine.specs.declared.status.Status.{Status}
 use Rattle.pa_engine.specs.declared.status.Status.TheVariants.{Done, Memory}
@@ -136,13 +137,15 @@ module _ (words : List (List ℕ)) (told : Option Files) (read write : Type 0) (
   -- ---- causes
   module _ (paths : Paths) (accepted : paths_of words ≡ Some paths) where
     -- the report of the inputs was put
-    pub caused_by_report : (d : Diagram) (lines : List ScriptLine) → AreRead told paths d lines → AreTrue (table_of d) (answers_of d lines)
+    pub caused_by_report : (d : Diagram) (lines : List ScriptLine) → AreRead told paths d lines → HoldEach Two (table_of d) (answers_of d lines)
+        → AreTrue (table_of d) (answers_of d lines)
         → IsPut write old new (report_of (answers_of d lines)) (status_of (answers_of d lines)) result → IsCaused run result
-    caused_by_report d lines are_read truth put =
+    caused_by_report d lines are_read holds truth put =
         let due : IsReported told paths (status_of (answers_of d lines)) (report_of (answers_of d lines)) = record {
           diagram = d;
           lines = lines;
           are_read = are_read;
+          holds = holds;
           truth = truth;
           status_is = refl;
           text_is = refl;

@@ -1,6 +1,7 @@
 -- How a run ends: what is due, and how it was put. Then what must be believed of a run, which names no procedure.
 use Rattle.std.specs.Prelude.{◌≡◌, ◌⊎◌, List, ◌++◌, ℕ, Bool, true, map, Option, Some, None, Ok, if◌then◌else◌}
 use Rattle.std.specs.List.{list_any}
+use Rattle.pa_witness.specs.Steps.{Two}
 use Rattle.pa_desk.specs.Files.{Files}
 use Rattle.pa_desk.specs.Taken.{with_bytes, TookPrefix}
 use Rattle.pa_json.specs.Diagrams.{Diagram}
@@ -8,7 +9,7 @@ use Rattle.pa_json.specs.Upgrades.{upgrade_of}
 use Rattle.pa_script.specs.declared.op.ScriptLine.{ScriptLine}
 use Rattle.pa_cert.specs.Tables.{Table, Answered, first_table, is_refused}
 use Rattle.pa_cert.specs.AnswerText.{report_of}
-use Rattle.pa_holds.specs.Tables.{AreTrue}
+use Rattle.pa_holds.specs.Tables.{AreTrue, HoldEach}
 use Rattle.pa_answers.specs.Answers.{answers_from}
 use Rattle.pa_engine.specs.declared.status.Status.{Status}
 use Rattle.pa_engine.specs.declared.status.Status.TheVariants.{Done, Refused, Usage, WriteFault, Memory}
@@ -43,11 +44,13 @@ answers_of diagram lines = answers_from (table_of diagram) lines
 
 -- ---- causes
 
--- the report of the answers is due, with their status; each answer is true of the table that the earlier ones leave
+-- the report of the answers is due, with their status; each answer holds, as it is printed, over the table that the earlier ones leave,
+-- and is true of it
 pub record IsReported (told : Option Files) (paths : Paths) (status : Status) (text : List ℕ) : Type 0 where
   pub diagram : Diagram
   pub lines : List ScriptLine
   pub are_read : AreRead told paths diagram lines
+  pub holds : HoldEach Two (table_of diagram) (answers_of diagram lines)
   pub truth : AreTrue (table_of diagram) (answers_of diagram lines)
   pub status_is : status ≡ status_of (answers_of diagram lines)
   pub text_is : text ≡ report_of (answers_of diagram lines)

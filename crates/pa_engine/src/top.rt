@@ -3,7 +3,8 @@ ghost use Rattle.std.specs.Prelude.{◌≡◌, ◌⊎◌, ℕ, List, map, string
 ghost use Rattle.pa_desk.specs.Causes.{Rose};
 ghost use Rattle.pa_desk.specs.Taken.{with_bytes};
 ghost use Rattle.pa_cert.specs.AnswerText.{report_of};
-ghost use Rattle.pa_holds.specs.Tables.{AreTrue};
+ghost use Rattle.pa_witness.specs.Steps.{Two};
+ghost use Rattle.pa_holds.specs.Tables.{AreTrue, HoldEach};
 ghost use Rattle.pa_answers.specs.Answers.{AreFormed};
 ghost use Rattle.pa_engine.specs.declared.status.Status.{Status as StatusValue};
 ghost use Rattle.pa_engine.specs.Words.{Paths, paths_of, upgrade_path_of};
@@ -73,6 +74,7 @@ fn answer_all<O: Sink>(alloc: Global, inputs: Inputs, out: &mut O) -> Status
     requires { all_built inputs.script ≡ true }
     ensures put { spec.IsPut (Rose (O.faults out.old) (O.faults out.new)) (O.took out.old) (O.took out.new)
         (report_of (spec.answers_of inputs.diagram inputs.script)) (spec.status_of (spec.answers_of inputs.diagram inputs.script)) result }
+    ensures printed { HoldEach Two (spec.table_of inputs.diagram) (spec.answers_of inputs.diagram inputs.script) }
     ensures truth { AreTrue (spec.table_of inputs.diagram) (spec.answers_of inputs.diagram inputs.script) }
 {
     let Inputs { diagram, script } = inputs;

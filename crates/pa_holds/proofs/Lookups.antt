@@ -1,33 +1,20 @@
--- What a line asks where its contracts are there, and which answers are true where one is not, or where the result's name has
--- one: limits, merges and tests.
-use Rattle.std.proofs.Common.{◌≡◌, refl, ap, ap₂, cond, ℕ, List, [], ◌∷◌, Option, Some, None, option_map, option_and_then, find}
-use Rattle.std.specs.Option.{is_none, is_some}
-use Rattle.pa_meaning.specs.Rows.{Point}
+-- The contracts that a line names, where they are there, and the question that it asks of them.
+use Rattle.std.proofs.Common.{◌≡◌, refl, ap₂, cond, List, [], ◌∷◌, Option, Some, None, option_map, option_and_then, find}
+use Rattle.std.specs.Option.{is_none}
 use Rattle.pa_meaning.specs.Contracts.{Name, Contract, Named}
+use Rattle.pa_witness.specs.Steps.{Version}
 use Rattle.pa_contract.specs.Named.{contract_named, contracts_named}
-use Rattle.pa_script.specs.declared.op.Op.TheVariants.{LimitRows, LimitPivots, Merge, Test}
+use Rattle.pa_script.specs.declared.op.Op.{Op}
 use Rattle.pa_cert.specs.declared.answer.Answer.{Answer}
-use Rattle.pa_cert.specs.declared.answer.LineAnswer.TheVariants.{Set, Taken, Answered as AnsweredBy}
+use Rattle.pa_cert.specs.declared.answer.LineAnswer.TheVariants.{Answered as AnsweredBy}
 use Rattle.pa_cert.specs.Tables.{Table}
-use Rattle.pa_holds.specs.Questions.{Merging, Testing}
-use Rattle.pa_holds.specs.Answers.{IsTrueAnswer}
-use Rattle.pa_holds.specs.Tables.{question_of, unknown, taken, IsTrueOf}
+use Rattle.pa_holds.specs.Questions.{Question}
+use Rattle.pa_holds.specs.Answers.{HoldsAsPrinted}
+use Rattle.pa_holds.specs.Tables.{question_of, taken, HoldsOver}
 
 -- ---- names
--- where each name has a contract, the contracts are found, and none is unknown; and the other way round
+-- where no name is unknown, the contracts are found
 module _ (contracts : List Named) where
-  pub named_known : (names : List Name) (cs : List Contract) → contracts_named contracts names ≡ Some cs
-      → find (λ n. is_none (contract_named contracts n)) names ≡ None
-  named_known [] cs h = refl
-  named_known (n ∷ ns) cs h = by (contract_named contracts n) (contracts_named contracts ns) h (named_known ns)
-    where
-      by : (o : Option Contract) (rest : Option (List Contract)) → option_and_then (λ c. option_map (λ cs. c ∷ cs) rest) o ≡ Some cs
-          → ((ds : List Contract) → rest ≡ Some ds → find (λ n. is_none (contract_named contracts n)) ns ≡ None)
-          → cond (is_none o) (Some n) (find (λ n. is_none (contract_named contracts n)) ns) ≡ None
-      by None rest h later = absurd (cc)
-      by (Some c) None h later = absurd (cc)
-      by (Some c) (Some ds) h later = later ds refl
-
   pub known_named : (names : List Name) → find (λ n. is_none (contract_named contracts n)) names ≡ None
       → (cs : List Contract) × (contracts_named contracts names ≡ Some cs)
   known_named [] h = ([], refl)
@@ -62,56 +49,14 @@ module _ (contracts : List Named) where
       by (Some c) None e f k = absurd (cc)
       by (Some c) (Some d) e f k = let is : cs ≡ c ∷ d ∷ [] = cc in (c, d, e, f, is)
 
--- ---- limits
-pub limit_rows_is_true : (table : Table) (most : ℕ) → IsTrueOf table (LimitRows most) Set
-limit_rows_is_true table most = tt
+-- ---- the answer to a line whose contracts are there
+-- an answer to its question that holds as it is printed holds over the table
+pub line_holds : (v : Version) (table : Table) (op : Op) (q : Question) (answer : Answer) → taken table.contracts op ≡ None
+    → question_of table.contracts op ≡ Some q → HoldsAsPrinted v table.limits q answer → HoldsOver v table op (AnsweredBy answer)
+line_holds v table op q answer free asks holds = (free, (q, asks, holds))
 
-pub limit_pivots_is_true : (table : Table) (most : ℕ) → IsTrueOf table (LimitPivots most) Set
-limit_pivots_is_true table most = tt
-
--- ---- merges
-module _ (contracts : List Named) (result left right : Name) where
-  pub merge_asks : (a b : Contract) → contract_named contracts left ≡ Some a → contract_named contracts right ≡ Some b
-      → question_of contracts (Merge result left right) ≡ Some (Merging a b)
-  merge_asks a b h k = ap₂ (λ l r. option_and_then (λ c. option_map (λ d. Merging c d) r) l) h k
-
-  pub merge_known : (a b : Contract) → contract_named contracts left ≡ Some a → contract_named contracts right ≡ Some b
-      → unknown contracts (Merge result left right) ≡ None
-  merge_known a b h k = ap₂ (λ l r. cond (is_none l) (Some left) (cond (is_none r) (Some right) None)) h k
-
-  pub merge_lacks_left : contract_named contracts left ≡ None → unknown contracts (Merge result left right) ≡ Some left
-  merge_lacks_left h = ap (λ l. cond (is_none l) (Some left) (cond (is_none (contract_named contracts right)) (Some right) None)) h
-
-  pub merge_lacks_right : (a : Contract) → contract_named contracts left ≡ Some a → contract_named contracts right ≡ None
-      → unknown contracts (Merge result left right) ≡ Some right
-  merge_lacks_right a h k = ap₂ (λ l r. cond (is_none l) (Some left) (cond (is_none r) (Some right) None)) h k
-
-  pub merge_is_free : contract_named contracts result ≡ None → taken contracts (Merge result left right) ≡ None
-  merge_is_free h = ap (λ o. cond (is_some o) (Some result) None) h
-
-  pub merge_is_taken : (c : Contract) → contract_named contracts result ≡ Some c → taken contracts (Merge result left right) ≡ Some result
-  merge_is_taken c h = ap (λ o. cond (is_some o) (Some result) None) h
-
-module _ (table : Table) (result left right : Name) where
-  pub merge_line_is_true : (a b : Contract) (answer : Answer) → contract_named table.contracts left ≡ Some a
-      → contract_named table.contracts right ≡ Some b → contract_named table.contracts result ≡ None → IsTrueAnswer (Merging a b) answer
-      → IsTrueOf table (Merge result left right) (AnsweredBy answer)
-  merge_line_is_true a b answer h k free is_true =
-      (merge_is_free table.contracts result left right free, (Merging a b, merge_asks table.contracts result left right a b h k, is_true))
-
-  pub merge_taken_is_true : (a b c : Contract) → contract_named table.contracts left ≡ Some a → contract_named table.contracts right ≡ Some b
-      → contract_named table.contracts result ≡ Some c → IsTrueOf table (Merge result left right) (Taken result)
-  merge_taken_is_true a b c h k there =
-      (merge_known table.contracts result left right a b h k, merge_is_taken table.contracts result left right c there)
-
--- ---- tests
-module _ (contracts : List Named) (of : Name) (names : List Name) (x : Point) where
-  pub test_asks : (c : Contract) → contract_named contracts of ≡ Some c → question_of contracts (Test of names x) ≡ Some (Testing c names x)
-  test_asks c h = ap (option_map (λ c. Testing c names x)) h
-
-  pub test_lacks : contract_named contracts of ≡ None → unknown contracts (Test of names x) ≡ Some of
-  test_lacks h = ap (λ o. cond (is_none o) (Some of) None) h
-
-pub test_line_is_true : (table : Table) (of : Name) (names : List Name) (x : Point) (c : Contract) (answer : Answer)
-    → contract_named table.contracts of ≡ Some c → IsTrueAnswer (Testing c names x) answer → IsTrueOf table (Test of names x) (AnsweredBy answer)
-test_line_is_true table of names x c answer h is_true = (refl, (Testing c names x, test_asks table.contracts of names x c h, is_true))
+-- the question of two contracts
+pub two_asks : (contracts : List Named) (ask : Contract → Contract → Question) (left right : Name) (a b : Contract)
+    → contract_named contracts left ≡ Some a → contract_named contracts right ≡ Some b
+    → option_and_then (λ c. option_map (λ d. ask c d) (contract_named contracts right)) (contract_named contracts left) ≡ Some (ask a b)
+two_asks contracts ask left right a b h k = ap₂ (λ l r. option_and_then (λ c. option_map (λ d. ask c d) r) l) h k

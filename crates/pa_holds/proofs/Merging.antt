@@ -1,18 +1,20 @@
--- What is computed of a merge is its true answer: the merge, or the refusal by name that is due.
-use Rattle.std.proofs.Common.{◌≡◌, refl, ap, ℕ, Bool, true, false, cond, Option, Some, None, option_map, nat_lt, length, ◌+◌, Result, Ok, Err}
+-- What is computed of a merge holds as it is printed: the merge, or the refusal by name that is due.
+use Rattle.std.proofs.Common.{◌≡◌, refl, sym, ◌∙◌, ap, ℕ, Bool, true, false, cond, Option, Some, None, option_map, nat_lt, length, ◌+◌, Result, Ok, Err}
 use Rattle.pa_math.specs.Answers.{given}
 use Rattle.pa_meaning.specs.Contracts.{Name, Contract, ports}
-use Rattle.pa_meaning.specs.Merge.{IsMerge}
+use Rattle.pa_witness.specs.Steps.{Version}
 use Rattle.pa_names.specs.Names.{most_ports}
 use Rattle.pa_contract.specs.Merge.{first_clash, row_count, most_rows, merged, merge_of}
 use Rattle.pa_contract.specs.declared.fault.MergeFault.{MergeFault}
 use Rattle.pa_contract.specs.declared.fault.MergeFault.TheVariants as fault
 use Rattle.pa_cert.specs.declared.refusal.NameRefusal.{NameRefusal}
 use Rattle.pa_cert.specs.declared.refusal.NameRefusal.TheVariants.{PortClash, Variables, Rows}
-use Rattle.pa_cert.specs.declared.answer.Answer.TheVariants.{Merged, Refused}
+use Rattle.pa_cert.specs.declared.answer.Answer.TheVariants.{Merged}
+use Rattle.pa_cert.specs.Tables.{Limits}
 use Rattle.pa_holds.specs.Refusals.{or_due}
 use Rattle.pa_holds.specs.Questions.{Merging}
-use Rattle.pa_holds.specs.Answers.{due, IsTrueAnswer}
+use Rattle.pa_holds.specs.Answers.{due, HoldsAsPrinted}
+use Rattle.pa_holds.proofs.Refusals.{merge_computed}
 
 -- ---- over plain values: the name that clashes, whether there are too many ports and rows, how many, and the merge
 abbrev computed : Option Name → Bool → Bool → ℕ → ℕ → Contract → Result Contract MergeFault
@@ -58,22 +60,25 @@ module _ (c other : Contract) where
   abbrev rows_over : Bool
   rows_over = nat_lt most_rows (row_count c + row_count other)
 
-  -- where there is a merge, no refusal is due, and the merge is the true answer
-  pub none_due : (m : Contract) → merge_of c other ≡ Ok m → due (Merging c other) ≡ None
+  -- where there is a merge, no refusal is due, and it is the merge that is defined
+  none_due : (m : Contract) → merge_of c other ≡ Ok m → due (Merging c other) ≡ None
   none_due m h = none_refused (first_clash c other) ports_over rows_over (length (ports (merged c other))) (row_count c + row_count other) (merged c other) m h
 
-  pub merge_is_true : (m : Contract) → merge_of c other ≡ Ok m → IsMerge c other m → IsTrueAnswer (Merging c other) (Merged m)
-  merge_is_true m h is_merge = (none_due m h, record { computed = h; meaning = is_merge })
+  pub merge_holds : (v : Version) (most : Limits) (m : Contract) → merge_of c other ≡ Ok m → HoldsAsPrinted v most (Merging c other) (Merged m)
+  merge_holds v most m h =
+      let same : Ok m ≡ Ok (merged c other) = sym h ∙ merge_computed c other (none_due m h) in
+      let is : m ≡ merged c other = cc in
+      (none_due m h, is)
 
   -- each fault but want of memory is the refusal that is due
-  pub clash_is_true : (name : Name) → merge_of c other ≡ Err (fault.PortClash name) → IsTrueAnswer (Merging c other) (Refused (PortClash name))
-  clash_is_true name h =
+  pub clash_due : (name : Name) → merge_of c other ≡ Err (fault.PortClash name) → due (Merging c other) ≡ Some (PortClash name)
+  clash_due name h =
       clash_refused (first_clash c other) ports_over rows_over (length (ports (merged c other))) (row_count c + row_count other) (merged c other) name h
 
-  pub many_ports_is_true : (count : ℕ) → merge_of c other ≡ Err (fault.VariableLimit count) → IsTrueAnswer (Merging c other) (Refused (Variables count))
-  many_ports_is_true count h =
+  pub many_ports_due : (count : ℕ) → merge_of c other ≡ Err (fault.VariableLimit count) → due (Merging c other) ≡ Some (Variables count)
+  many_ports_due count h =
       ports_refused (first_clash c other) ports_over rows_over (length (ports (merged c other))) (row_count c + row_count other) (merged c other) count h
 
-  pub many_rows_is_true : (count : ℕ) → merge_of c other ≡ Err (fault.Load count) → IsTrueAnswer (Merging c other) (Refused (Rows count))
-  many_rows_is_true count h =
+  pub many_rows_due : (count : ℕ) → merge_of c other ≡ Err (fault.Load count) → due (Merging c other) ≡ Some (Rows count)
+  many_rows_due count h =
       rows_refused (first_clash c other) ports_over rows_over (length (ports (merged c other))) (row_count c + row_count other) (merged c other) count h

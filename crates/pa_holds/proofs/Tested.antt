@@ -1,4 +1,4 @@
--- Tests: what holds as printed is true, and so is what a test of the contract at the point's own ports tells.
+-- Tests: what holds as printed is true, and what a test of the contract at the point's own ports tells holds as it is printed.
 use Rattle.std.proofs.Common.{◌≡◌, refl, sym, ap, ◌∙◌, subst, ℕ, Bool, not, cond, List, [], ◌∷◌, ◌++◌, length, Decides, All, Option, Some, None}
 use Rattle.std.proofs.Common.{option_map, find, arith}
 use Rattle.std.proofs.Common.{◌<◌, Ok, Err, length-append}
@@ -13,21 +13,23 @@ use lib.Signed.{◌<ℤ◌}
 use Rattle.pa_meaning.specs.Rows.{Row, Point, Meets}
 use Rattle.pa_meaning.specs.Contracts.{Name, Contract, ports, Behaviour, behaviour_of, point_over}
 use Rattle.pa_meaning.specs.Composition.{is_among}
+use Rattle.pa_witness.specs.Steps.{Version}
 use Rattle.pa_contract.specs.WellFormed.{IsWellFormed}
 use Rattle.pa_contract.specs.Merge.{row_count}
-use Rattle.pa_contract.specs.Testing.{Tested, IsTested, tested, words_of, passes_at, sum_place}
+use Rattle.pa_contract.specs.Testing.{Tested, IsTested, tested, words_of, keeps_word, passes_at, sum_place}
 use Rattle.pa_contract.specs.declared.fault.TestFault.TheVariants.{Wide}
-use Rattle.pa_contract.proofs.Words.{all_words, implication}
-use Rattle.pa_contract.proofs.Fronts.{meets_front, all_short}
+use Rattle.pa_contract.proofs.Words.{all_words, implication, tested_is_tested}
+use Rattle.pa_contract.proofs.Fronts.{meets_front}
 use Rattle.pa_contract.proofs.Steps.{is_some-position}
 use Rattle.pa_row.specs.declared.place.Place.{Place}
 use Rattle.pa_cert.specs.declared.refusal.NameRefusal.TheVariants.{UnknownPort}
-use Rattle.pa_cert.specs.declared.answer.Answer.TheVariants.{TestedAs, Refused, TooWide}
+use Rattle.pa_cert.specs.declared.answer.Answer.TheVariants.{TestedAs, TooWide}
+use Rattle.pa_cert.specs.Tables.{Limits}
 use Rattle.pa_holds.specs.Refusals.{first_missing}
 use Rattle.pa_math.specs.Answers.{given}
 use Rattle.pa_holds.specs.Limits.{PlaceFits}
 use Rattle.pa_holds.specs.Questions.{Testing}
-use Rattle.pa_holds.specs.Answers.{due, IsTestOf, HoldsAsTested, IsTrue, IsTrueAnswer}
+use Rattle.pa_holds.specs.Answers.{due, IsTestOf, HoldsAsTested, HoldsAsPrinted}
 
 -- A test that holds as printed is true.
 pub tested_is_true : (c : Contract) (v : Behaviour) (t : Tested) → HoldsAsTested c v t → IsTestOf c v t
@@ -56,51 +58,55 @@ inputs_words inputs outputs v (r ∷ rows) (w ∷ words) fit h =
     )
 
 -- what is told of a behaviour's point at the ports is told of the behaviour
-told_of : (c : Contract) (v : Behaviour) (t : Tested) → IsWellFormed c → IsTested c (point_over (ports c) v) t → IsTestOf c v t
-told_of c v t formed h =
-    let short = all_short c.inputs c.outputs v c.assumptions formed.assumptions.columns_fit in
-    record {
-      assumptions = inputs_words c.inputs c.outputs v c.assumptions t.assumptions formed.assumptions.columns_fit h.assumptions;
-      guarantees = h.guarantees;
-      keeps = (λ e a. h.keeps.0 e (short.1 a), λ k. h.keeps.1 (λ a. k (short.0 a)));
-    }
+told_of : (c : Contract) (v : Behaviour) (t : Tested) → IsWellFormed c → IsTested c (point_over (ports c) v) t
+    → t.keeps ≡ keeps_word t.assumptions t.guarantees → HoldsAsTested c v t
+told_of c v t formed h word = record {
+  assumptions = inputs_words c.inputs c.outputs v c.assumptions t.assumptions formed.assumptions.columns_fit h.assumptions;
+  guarantees = h.guarantees;
+  keeps = word;
+}
+
+-- the first word is computed from the others
+words_computed : (found : Option ℕ) (words t : Tested) → given (Ok words) found (λ row. Err (Wide (sum_place row))) ≡ Ok t → words ≡ t
+words_computed None words t h = cc
+words_computed (Some row) words t h = absurd (cc)
+
+word_is : (c : Contract) (at : Point) (t : Tested) → tested c at ≡ Ok t → t.keeps ≡ keeps_word t.assumptions t.guarantees
+word_is c at t h =
+    subst (λ (t : Tested). t.keeps ≡ keeps_word t.assumptions t.guarantees)
+    (words_computed (position (passes_at at) (c.assumptions ++ c.guarantees)) (words_of c.assumptions c.guarantees at) t h) refl
 
 module _ (c : Contract) (names : List Name) (x : Point) where
   -- where each name is a port, no refusal is due
-  pub ports_known : first_missing (ports c) names ≡ None → due (Testing c names x) ≡ None
+  ports_known : first_missing (ports c) names ≡ None → due (Testing c names x) ≡ None
   ports_known h = ap (option_map UnknownPort) h
 
-  -- the words of a test at the point's numbers of the ports, 0 where it has none, are true
-  pub test_is_true : (up : pos 0 <ℤ x.q) (at : Point) (t : Tested) → IsWellFormed c → at ≡ point_over (ports c) (behaviour_of names x up)
-      → IsTested c at t → IsTrue (Testing c names x) (TestedAs t)
-  test_is_true up at t formed is h = (up, told_of c (behaviour_of names x up) t formed (subst (λ at. IsTested c at t) is h))
-
-  pub test_answer_is_true : (up : pos 0 <ℤ x.q) (at : Point) (t : Tested) → IsWellFormed c → first_missing (ports c) names ≡ None
-      → at ≡ point_over (ports c) (behaviour_of names x up) → IsTested c at t → IsTrueAnswer (Testing c names x) (TestedAs t)
-  test_answer_is_true up at t formed known is h = (ports_known known, test_is_true up at t formed is h)
+  -- the words of a test at the point's numbers of the ports, 0 where it has none
+  pub test_holds : (v : Version) (most : Limits) (up : pos 0 <ℤ x.q) (t : Tested) → IsWellFormed c → first_missing (ports c) names ≡ None
+      → tested c (point_over (ports c) (behaviour_of names x up)) ≡ Ok t → HoldsAsPrinted v most (Testing c names x) (TestedAs t)
+  test_holds v most up t formed known is =
+      let at = point_over (ports c) (behaviour_of names x up) in
+      (ports_known known, (up, told_of c (behaviour_of names x up) t formed (tested_is_tested c at t is) (word_is c at t is)))
 
   -- a row whose sums pass is one of the contract's
-  wide_row_is_true : (at : Point) (place : Place) (found : Option ℕ) → position (passes_at at) (c.assumptions ++ c.guarantees) ≡ found
+  wide_row : (most : Limits) (at : Point) (place : Place) (found : Option ℕ) → position (passes_at at) (c.assumptions ++ c.guarantees) ≡ found
       → given (Ok (words_of c.assumptions c.guarantees at)) found (λ row. Err (Wide (sum_place row))) ≡ Err (Wide place)
-      → IsTrue (Testing c names x) (TooWide place)
-  wide_row_is_true at place None first is = absurd (cc)
-  wide_row_is_true at place (Some row) first is =
+      → PlaceFits most (Testing c names x) place
+  wide_row most at place None first is = absurd (cc)
+  wide_row most at place (Some row) first is =
       let here : sum_place row ≡ place = cc in
       let within : row < row_count c = subst (λ n. row < n) (length-append c.assumptions c.guarantees)
-      (position-Some (passes_at at) (c.assumptions ++ c.guarantees) row (record { c = []; b = pos 0 }) first).0 in (
-        record { rows = 0; pivots = 0 },
-        subst (PlaceFits (record { rows = 0; pivots = 0 }) (Testing c names x)) here
-            (record { task = within; problem = tt; spot = tt; pivot = tt }),
-      )
+      (position-Some (passes_at at) (c.assumptions ++ c.guarantees) row (record { c = []; b = pos 0 }) first).0 in
+      subst (PlaceFits most (Testing c names x)) here (record { task = within; problem = tt; spot = tt; pivot = tt })
 
-  pub wide_test_is_true : (at : Point) (place : Place) → first_missing (ports c) names ≡ None → tested c at ≡ Err (Wide place)
-      → IsTrueAnswer (Testing c names x) (TooWide place)
-  wide_test_is_true at place known is =
-      (ports_known known, wide_row_is_true at place (position (passes_at at) (c.assumptions ++ c.guarantees)) refl is)
+  pub wide_test_holds : (v : Version) (most : Limits) (at : Point) (place : Place) → first_missing (ports c) names ≡ None
+      → tested c at ≡ Err (Wide place) → HoldsAsPrinted v most (Testing c names x) (TooWide place)
+  wide_test_holds v most at place known is =
+      (ports_known known, wide_row most at place (position (passes_at at) (c.assumptions ++ c.guarantees)) refl is)
 
   -- the first name that is no port refuses the test
-  pub unknown_port_is_true : (name : Name) → first_missing (ports c) names ≡ Some name → IsTrueAnswer (Testing c names x) (Refused (UnknownPort name))
-  unknown_port_is_true name h = ap (option_map UnknownPort) h
+  pub unknown_port_due : (name : Name) → first_missing (ports c) names ≡ Some name → due (Testing c names x) ≡ Some (UnknownPort name)
+  unknown_port_due name h = ap (option_map UnknownPort) h
 
 -- the first name without a place is the first that is missing
 pub missing_by_place : (ns names : List Name) → find (λ n. is_none (position (bytes_eq n) ns)) names ≡ first_missing ns names

@@ -6,7 +6,7 @@ use Rattle.pa_engine.proofs.top.run_to_end.Goals as goal
 pub returns-in-Ok-clause-caused : goal.returns-in-Ok-clause-caused
 returns-in-Ok-clause-caused g c =
     caused_by_report (map string_bytes c.args.words.now) _ _ _ _ _ _ _ (sym c.in-Some-paths_of.ensures) _ _
-    c.in-Ok.ensures.ok c.answer_all.ensures.truth c.answer_all.ensures.put
+    c.in-Ok.ensures.ok c.answer_all.ensures.printed c.answer_all.ensures.truth c.answer_all.ensures.put
 
 -- the line of what stops the run is due, and was put, or memory ran out
 pub returns-in-Err : goal.returns-in-Err
