@@ -1,10 +1,14 @@
 #!/usr/bin/env python3
-"""Measures a built program on refinements and bounds: questions.py PROGRAM [WORD ..]
+"""Measures a built program on refinements, bounds and hidings: questions.py PROGRAM [WORD ..]
 
 - Dense refinements: a contract of 8 and of 16 names, each within bounds, and as many rows over all names. Two others have 8 rows
   each: sums of these rows that are loosened, so that the answer is yes, and the same with one that is tightened, so that it is no.
-- Wide refinements: 256 and 1,024 rows over 32 names, five of them in a row, put together by merges, and 4 rows that follow.
+- Wide refinements: 256 and 1,024 rows over 32 names, each within bounds and three of them in each other row, put together by
+  merges, and 4 rows over four names each that follow from their bounds.
 - Bounds: 16, 32 and 64 amounts of which each is at least 0, and half as many resources, and the best use of them.
+- Drawn hidings: 5 and 6 names, each within bounds, twice as many rows over most of them and two more, and all names but two hidden.
+- Lifted balls: the sum of 6 and of 8 amounts is at most 1, each amount is at least a name and its negative, and the amounts are
+  hidden. What is left are the rows of an octahedron in so many dimensions: one for each choice of signs.
 
 Times are milliseconds of processor time, user and system, each the least of RUNS runs (3 where the environment does not say).
 WORD .. is another program that is given the same two files: it is run in turn with the first, and `ratio` is the first one's time
@@ -50,6 +54,11 @@ def sum_of(draw, rows, names, slack):
     return factors, bound
 
 
+def within_bounds(draw, names):
+    """A row over four names, each within 60, that is met where they are."""
+    return {name: draw.choice((-1, 1)) for name in draw.sample(names, 4)}, 240
+
+
 def dense(count):
     draw = random.Random(count)
     names = [f"x{number}" for number in range(count)]
@@ -67,10 +76,10 @@ def wide(count):
     names = [f"x{number}" for number in range(32)]
     rows = [({name: sign}, draw.randint(40, 60)) for name in names for sign in (1, -1)]
     while len(rows) < count:
-        rows.append(({name: draw.choice((-3, -2, -1, 1, 2, 3)) for name in draw.sample(names, 5)}, draw.randint(20, 60)))
+        rows.append(({name: draw.choice((-2, -1, 1, 2)) for name in draw.sample(names, 3)}, draw.randint(60, 120)))
     parts = [rows[first:first + 250] for first in range(0, count, 250)]
     contracts = [contract(f"A{number}", names, part) for number, part in enumerate(parts)]
-    contracts.append(contract("Y", names, [sum_of(draw, rows, names, 1) for _ in range(4)]))
+    contracts.append(contract("Y", names, [within_bounds(draw, names) for _ in range(4)]))
     lines = []
     last = "A0"
     for number in range(1, len(parts)):
@@ -89,6 +98,27 @@ def best_use(count):
         rows.append((users, draw.randint(30, 99)))
     goal = " + ".join(f"{draw.randint(2, 9)} {name}" for name in names)
     return [contract("P", names, rows)], [f"bound P max {goal}", "bound P min act0"], ["value", "value 0"]
+
+
+def drawn(count):
+    draw = random.Random(count)
+    names = [f"x{number}" for number in range(count)]
+    rows = []
+    for _ in range(2 * count + 2):
+        rows.append(({name: draw.randint(-3, 3) for name in draw.sample(names, count - 1)}, draw.randint(6, 12)))
+    rows += [({name: sign}, draw.randint(9, 12)) for name in names for sign in (1, -1)]
+    gone = " ".join(names[2:])
+    return [contract("C", names, rows)], ["limit rows 4096", f"hide H = C {gone}"], ["outputs x0 x1"]
+
+
+def lifted(count):
+    names = [f"x{number}" for number in range(count)]
+    amounts = [f"y{number}" for number in range(count)]
+    rows = [({name: sign, amount: -1}, 0) for sign in (1, -1) for name, amount in zip(names, amounts)]
+    rows.append(({amount: 1 for amount in amounts}, 1))
+    gone = " ".join(amounts)
+    rows_left = [f"outputs {' '.join(names)}"] + ["guarantee "] * 2**count
+    return [contract("C", names + amounts, rows)], ["limit rows 4096", f"hide H = C {gone}"], rows_left
 
 
 def spent(words):
@@ -112,7 +142,8 @@ def measure(label, question, programs, folder):
             time, done = spent([*program, diagram, script])
             least[place] = min(least[place], time)
             if place == 0:
-                told = [line for line in done.stdout.decode().split("\n") if line.startswith(("yes", "no ", "value"))]
+                kinds = tuple({answer.split(" ")[0] for answer in due})
+                told = [line for line in done.stdout.decode().split("\n") if line.startswith(kinds)]
                 if done.returncode != 0 or len(told) != len(due) or any(not a.startswith(b) for a, b in zip(told, due)):
                     sys.exit(f"bench: {label}: status {done.returncode}, answers {told}")
     figures = " ".join(f"{time:9.1f}" for time in least)
@@ -130,6 +161,10 @@ def main():
             measure(f"wide refinement {count}", wide(count), programs, folder)
         for count in (16, 32, 64):
             measure(f"bound {count}", best_use(count), programs, folder)
+        for count in (5, 6):
+            measure(f"drawn hiding {count}", drawn(count), programs, folder)
+        for count in (6, 8):
+            measure(f"lifted ball {count}", lifted(count), programs, folder)
 
 
 main()

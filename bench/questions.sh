@@ -1,5 +1,5 @@
 #!/bin/sh
-# Measures refinements and bounds with the proved program; questions.py says what. It can be called from any folder, and needs
+# Measures refinements, bounds and hidings with the proved program; questions.py says what. It can be called from any folder, and needs
 # python3, and, where the program is not built yet, rt. Words that are given are another program that reads the same files: it
 # is run beside, and ratios are printed.
 
