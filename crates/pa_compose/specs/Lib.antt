@@ -1,11 +1,6 @@
 pub mod Hiding
-pub mod Rounds
-pub mod Composing
-pub mod Composite
-pub mod Found
 pub use Rattle.pa_meaning.specs.Composition
 pub use Rattle.pa_holds.specs.Composed
 pub use Rattle.pa_holds.specs.Refusals
 pub use Rattle.pa_elim.specs.Projecting
 pub use Rattle.pa_elim.specs.Meant
-pub use Rattle.pa_shift.specs.Shifting
