@@ -1,5 +1,6 @@
 mod Ports
 mod Questions
+mod Compositions
 mod Headings
 pub mod Truths
 pub mod Scripts
