@@ -1,6 +1,5 @@
 mod Ports
 mod Questions
-mod Compositions
 mod Headings
 pub mod Truths
 pub mod Scripts

@@ -1,6 +1,6 @@
 -- The answer to each line holds over the table as it is printed, by definitions alone, and the table can go past it: so all answers of
 -- a script hold, each over the table that the earlier ones leave, and are true.
-use Rattle.std.proofs.Common.{◌≡◌, ◌∙◌, suc, length, List, [], ◌∷◌, refl, sym, ap, subst, Option, Some, None, Result, Ok, Err}
+use Rattle.std.proofs.Common.{◌≡◌, List, [], ◌∷◌, refl, sym, ap, subst, Option, Some, None, Result, Ok, Err}
 use Rattle.std.proofs.Common.{Bool, true, false, cond, All, IfOk, option_map}
 use Rattle.std.specs.Prelude.{option_and_then, is_some, IfSome}
 use Rattle.std.proofs.lemmas.List.Elements.{All-cons, All-head, All-nil, All-tail}
@@ -11,7 +11,6 @@ use Rattle.pa_witness.specs.Steps.{Two}
 use Rattle.pa_row.specs.Steps.{IsLimit}
 use Rattle.pa_contract.specs.Merge.{merge_of}
 use Rattle.pa_contract.specs.Named.{contract_named, contracts_named}
-use Rattle.pa_contract.specs.Nominal.{IsNominal}
 use Rattle.pa_contract.specs.WellFormed.{IsWellFormed}
 use Rattle.pa_script.specs.declared.op.ScriptLine.{ScriptLine}
 use Rattle.pa_script.specs.declared.op.Op.{Op}
@@ -20,20 +19,18 @@ use Rattle.pa_script.specs.Ops.{operands, result_of, IsPointOf, IsGoal, IsWellFo
 use Rattle.pa_cert.specs.declared.answer.LineAnswer.{LineAnswer}
 use Rattle.pa_cert.specs.declared.answer.LineAnswer.TheVariants.{Set, Unknown, Taken, Answered as AnsweredBy}
 use Rattle.pa_cert.specs.Tables.{Table, Answered, contract_of, IsFree, CanAdvance, advanced, with_answer, with_limit}
-use Rattle.pa_holds.specs.Questions.{Question, Merging, Testing, Refining, Bounding, Hiding, Composing}
+use Rattle.pa_holds.specs.Questions.{Question, Merging, Testing, Refining, Bounding, Hiding}
 use Rattle.pa_holds.specs.Tables.{unknown, taken, question_of, IsTrueOf, HoldsOver, AreTrue, HoldEach}
-use Rattle.pa_holds.proofs.Tables.{OfSome, all_have, one_has, line_is_true, report_is_true}
+use Rattle.pa_holds.proofs.Tables.{OfSome, one_has, line_is_true, report_is_true}
 use Rattle.pa_holds.proofs.Lookups.{known_named, named_one, named_two, two_asks, line_holds}
 use Rattle.pa_holds.proofs.Stays.{formed_are_distinct, printed_table_stays}
 use Rattle.pa_refine.specs.Refining.{refined_of}
 use Rattle.pa_refine.specs.Bounding.{bounded_of}
 use Rattle.pa_compose.specs.Hiding.{hidden_of}
-use Rattle.pa_compose.specs.Composing.{composed_of}
 use Rattle.pa_answers.specs.Built.{is_built}
-use Rattle.pa_answers.specs.Answers.{merge_answer, test_answer, refine_answer, bound_answer, hide_answer, compose_answer, answer_on, answer_of}
-use Rattle.pa_answers.specs.Answers.{answered, answers_from, first_unknown, past, AreFormed}
+use Rattle.pa_answers.specs.Answers.{merge_answer, test_answer, refine_answer, bound_answer, hide_answer, answer_on, answer_of}
+use Rattle.pa_answers.specs.Answers.{answered, answers_from, past, AreFormed}
 use Rattle.pa_answers.proofs.Questions.{HoldsTo, merge_told, test_told, refine_told, bound_told, hide_told}
-use Rattle.pa_answers.proofs.Compositions.{compose_told}
 
 -- ---- the answer by what is due first
 answer_unknown : (table : Table) (op : Op) (name : Name) → unknown table.contracts op ≡ Some name → answer_of table op ≡ Unknown name
@@ -71,31 +68,12 @@ pub hide_given : (table : Table) (result of : Name) (names : List Name) (c : Con
     → answer_of table (Hide result of names) ≡ hide_answer (hidden_of c names table.limits.rows table.limits.pivots)
 hide_given table result of names c h free = rw (h, free) refl
 
-pub compose_given : (table : Table) (result : Name) (names keep : List Name) (cs : List Contract) → first_unknown table names ≡ None
-    → is_some (contract_named table.contracts result) ≡ false → contracts_named table.contracts names ≡ Some cs
-    → answer_of table (Compose result names keep) ≡ compose_answer cs (composed_of cs keep table.nominal table.limits.rows table.limits.pivots)
-compose_given table result names keep cs known free named = rw (known, free, named) refl
-
--- as many contracts are found as are named
-pub named_many : (table : Table) (names : List Name) (cs : List Contract) → contracts_named table.contracts names ≡ Some cs → length cs ≡ length names
-named_many table [] cs h = let is : cs ≡ [] = cc in ap length is
-named_many table (n ∷ ns) cs h = by (contract_named table.contracts n) (contracts_named table.contracts ns) h (named_many table ns)
-  where
-    by : (o : Option Contract) (rest : Option (List Contract)) → option_and_then (λ c. option_map (λ cs. c ∷ cs) rest) o ≡ Some cs
-        → ((ds : List Contract) → rest ≡ Some ds → length ds ≡ length ns) → length cs ≡ length (n ∷ ns)
-    by None rest h later = absurd (cc)
-    by (Some c) None h later = absurd (cc)
-    by (Some c) (Some ds) h later = let is : cs ≡ c ∷ ds = cc in ap length is ∙ ap (λ k. suc k) (later ds refl)
-
 module _ (table : Table) (formed : AreFormed table) (limited : IsLimit table.limits.rows) where
   abbrev Holds : Op → LineAnswer → Type 0
   Holds op answer = HoldsOver Two table op answer
 
   found_formed : (name : Name) (c : Contract) → contract_named table.contracts name ≡ Some c → IsWellFormed c
-  found_formed name c is = subst (OfSome IsWellFormed) is (one_has IsWellFormed table.contracts name formed.contracts)
-
-  all_formed : (names : List Name) (cs : List Contract) → contracts_named table.contracts names ≡ Some cs → All IsWellFormed cs
-  all_formed names cs is = subst (OfSome (All IsWellFormed)) is (all_have IsWellFormed table.contracts names formed.contracts)
+  found_formed name c is = subst (OfSome IsWellFormed) is (one_has IsWellFormed table.contracts name formed)
 
   -- what its question is told holds of the line
   line_told : (op : Op) (q : Question) (answer : LineAnswer) → taken table.contracts op ≡ None → question_of table.contracts op ≡ Some q
@@ -148,13 +126,6 @@ module _ (table : Table) (formed : AreFormed table) (limited : IsLimit table.lim
       (line_told op (Hiding c names) (hide_answer (hidden_of c names table.limits.rows table.limits.pivots)) free
       (ap (option_map (λ c. Hiding c names)) h) (hide_told table.limits c names (found_formed of c h) limited.greatest))
 
-  on_compose : (result : Name) (names keep : List Name) (cs : List Contract) → contracts_named table.contracts names ≡ Some cs
-      → taken table.contracts (Compose result names keep) ≡ None → Holds (Compose result names keep) (answer_on table (Compose result names keep) cs)
-  on_compose result names keep cs named free =
-      line_told (Compose result names keep) (Composing cs keep)
-      (compose_answer cs (composed_of cs keep table.nominal table.limits.rows table.limits.pivots)) free (ap (option_map (λ ps. Composing ps keep)) named)
-      (compose_told table.limits cs keep table.nominal limited.greatest (all_formed names cs named) formed.nominal)
-
   -- ---- any line
   on_all : (op : Op) → is_built op ≡ true → IsWellFormedOp op → (cs : List Contract) → contracts_named table.contracts (operands op) ≡ Some cs
       → taken table.contracts op ≡ None → Holds op (answer_on table op cs)
@@ -165,7 +136,7 @@ module _ (table : Table) (formed : AreFormed table) (limited : IsLimit table.lim
   on_all (Refine left right) built w cs named free = on_refine left right cs named
   on_all (Bound of least goal) built w cs named free = on_bound of least goal w cs named
   on_all (Hide result of names) built w cs named free = on_hide result of names cs named free
-  on_all (Compose result parts keep) built w cs named free = on_compose result parts keep cs named free
+  on_all (Compose result parts keep) built w cs named free = absurd (cc)
   on_all (Quotient result whole part) built w cs named free = absurd (cc)
 
   by_due : (op : Op) → is_built op ≡ true → IsWellFormedOp op → (first there : Option Name) → unknown table.contracts op ≡ first
@@ -184,7 +155,7 @@ answer_holds table op formed limited built w = by_due table formed limited op bu
 answer_true : (table : Table) (op : Op) → AreFormed table → IsLimit table.limits.rows → is_built op ≡ true → IsWellFormedOp op
     → IsTrueOf table op (answer_of table op)
 answer_true table op formed limited built w =
-    line_is_true Two table op (answer_of table op) (formed_are_distinct table.contracts formed.contracts) w (answer_holds table op formed limited built w)
+    line_is_true Two table op (answer_of table op) (formed_are_distinct table.contracts formed) w (answer_holds table op formed limited built w)
 
 -- ---- the limits past an answer
 set_limits : (table : Table) (op : Op) → IsLimit table.limits.rows → IsWellFormedOp op → IsLimit (with_limit table op).limits.rows
@@ -210,29 +181,6 @@ limits_stay table op (AnsweredBy a) l w = by (result_of op) (contract_of a)
     by None (Some c) = l
     by (Some n) (Some c) = l
 
--- ---- the nominal values past an answer
-nominal_stays : (table : Table) (op : Op) (answer : LineAnswer) → IsNominal table.nominal → IsNominal (advanced table op answer).nominal
-nominal_stays table op (Unknown name) h = h
-nominal_stays table op (Taken name) h = h
-nominal_stays table op Set h = limit_set op
-  where
-    limit_set : (op : Op) → IsNominal (with_limit table op).nominal
-    limit_set (LimitRows most) = h
-    limit_set (LimitPivots most) = h
-    limit_set (Merge result left right) = h
-    limit_set (Test of names at) = h
-    limit_set (Refine left right) = h
-    limit_set (Bound of least goal) = h
-    limit_set (Hide result of names) = h
-    limit_set (Compose result parts keep) = h
-    limit_set (Quotient result whole part) = h
-nominal_stays table op (AnsweredBy a) h = by (result_of op) (contract_of a)
-  where
-    by : (name : Option Name) (contract : Option Contract) → IsNominal (with_answer table name contract).nominal
-    by name None = h
-    by None (Some c) = h
-    by (Some n) (Some c) = h
-
 -- all answers of a script hold as they are printed
 pub answers_hold : (lines : List ScriptLine) (table : Table)
     → AreFormed table → IsLimit table.limits.rows → All (λ line. is_built line.op ≡ true) lines → All IsWellFormedLine lines
@@ -242,11 +190,7 @@ answers_hold (line ∷ lines) table formed limited built w =
     let op_formed = (All-head IsWellFormedLine line lines w).op in
     let holds = answer_holds table line.op formed limited (All-head (λ l. is_built l.op ≡ true) line lines built) op_formed in (
       holds,
-      answers_hold lines (past table line)
-          (record {
-            contracts = printed_table_stays Two table line.op (answer_of table line.op) limited.greatest formed.contracts holds;
-            nominal = nominal_stays table line.op (answer_of table line.op) formed.nominal;
-          })
+      answers_hold lines (past table line) (printed_table_stays Two table line.op (answer_of table line.op) limited.greatest formed holds)
           (limits_stay table line.op (answer_of table line.op) limited op_formed)
           (All-tail (λ l. is_built l.op ≡ true) line lines built) (All-tail IsWellFormedLine line lines w),
     )
@@ -263,7 +207,7 @@ pub answers_true : (lines : List ScriptLine) (table : Table)
     → AreFormed table → IsLimit table.limits.rows → All (λ line. is_built line.op ≡ true) lines → All IsWellFormedLine lines
     → AreTrue table (answers_from table lines)
 answers_true lines table formed limited built w =
-    report_is_true Two table (answers_from table lines) (formed_are_distinct table.contracts formed.contracts) (answered_formed lines table w)
+    report_is_true Two table (answers_from table lines) (formed_are_distinct table.contracts formed) (answered_formed lines table w)
     (answers_hold lines table formed limited built w)
 
 -- ---- the table goes past an answer

@@ -12,5 +12,5 @@ is_built (Test of names at) = true
 is_built (Refine left right) = true
 is_built (Bound of least goal) = true
 is_built (Hide result of names) = true
-is_built (Compose result parts keep) = true
+is_built (Compose result parts keep) = false
 is_built (Quotient result whole part) = false

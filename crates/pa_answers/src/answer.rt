@@ -1,5 +1,5 @@
 // The answer to a script line.
-ghost use Rattle.std.specs.Prelude.{◌≡◌, ◌≤◌, IfOk, true, length};
+ghost use Rattle.std.specs.Prelude.{◌≡◌, IfOk, true, length};
 ghost use Rattle.pa_meaning.specs.Contracts.{ports};
 ghost use Rattle.pa_witness.specs.Steps.{Two};
 ghost use Rattle.pa_row.specs.Steps.{IsLimit};
@@ -13,7 +13,6 @@ ghost use Rattle.pa_answers.specs.Answers.{AreFormed};
 ghost use Rattle.pa_answers.specs.Built.{is_built};
 
 use crate::bounding::bounded;
-use crate::composing::{composed, first_unknown, parts_named};
 use crate::hiding::hidden;
 use crate::point::at_ports;
 use crate::refining::refined;
@@ -24,7 +23,7 @@ use pa_grammar::Linear;
 use pa_names::{Name, Names};
 use pa_refine::first_missing_port;
 use pa_row::Point;
-use pa_script::{Mentions, Op, ScriptLine};
+use pa_script::{Op, ScriptLine};
 use std::alloc::{AllocError, Global};
 
 // The merge of two contracts, or its refusal.
@@ -180,32 +179,9 @@ fn hide_line(
     hidden(alloc, contract, names, table.limits())
 }
 
-// The answer to a composition.
-#[tactic(auto, using(crate::proofs::Truths::compose_given))]
-fn compose_line(
-    alloc: Global,
-    table: &Table,
-    name: &Name,
-    names: &Mentions,
-    keep: &Names,
-) -> Result<LineAnswer, AllocError>
-    requires few { length names.now ≤ 32 }
-    ensures { IfOk result (λ answer. answer ≡ spec.answer_of table.now (Op.Compose name.now names.now keep.now)) }
-{
-    if let Some(missing) = first_unknown(table, &names.names) {
-        return unknown(alloc, missing);
-    }
-    if table.find(name).is_some() {
-        return taken(alloc, name);
-    }
-    let parts = parts_named(alloc, table, &names.names)?;
-    composed(alloc, &parts, keep, table.nominal(), table.limits())
-}
-
 // The answer to the line's operation.
 fn answer_op(alloc: Global, table: &Table, op: &Op) -> Result<LineAnswer, AllocError>
-    requires built { is_built op.now ≡ true }
-    requires well_formed { IsWellFormedOp op.now }
+    requires { is_built op.now ≡ true }
     ensures { IfOk result (λ answer. answer ≡ spec.answer_of table.now op.now) }
 {
     match op {
@@ -219,12 +195,7 @@ fn answer_op(alloc: Global, table: &Table, op: &Op) -> Result<LineAnswer, AllocE
         Op::Refine { left, right } => refine_line(alloc, table, left, right),
         Op::Bound { of, least, goal } => bound_line(alloc, table, of, *least, goal),
         Op::Hide { result, of, names } => hide_line(alloc, table, result, of, names),
-        Op::Compose {
-            result,
-            parts,
-            keep,
-        } => compose_line(alloc, table, result, parts, keep),
-        Op::Quotient { .. } => unreachable!(),
+        Op::Compose { .. } | Op::Quotient { .. } => unreachable!(),
     }
 }
 

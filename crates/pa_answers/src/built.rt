@@ -4,8 +4,7 @@ ghost use Rattle.pa_answers.specs.Built as spec;
 
 use pa_script::Op;
 
-/// Whether the operation is built so far: limits, merges, tests, refinements, bounds, hidings and
-/// compositions are.
+/// Whether the operation is built so far: limits, merges, tests, refinements, bounds and hidings are.
 pub fn is_built(op: &Op) -> bool
     ensures { result ≡ spec.is_built op.now }
 {
@@ -16,8 +15,7 @@ pub fn is_built(op: &Op) -> bool
         | Op::Test { .. }
         | Op::Refine { .. }
         | Op::Bound { .. }
-        | Op::Hide { .. }
-        | Op::Compose { .. } => true,
-        Op::Quotient { .. } => false,
+        | Op::Hide { .. } => true,
+        Op::Compose { .. } | Op::Quotient { .. } => false,
     }
 }

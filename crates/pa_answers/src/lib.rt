@@ -1,7 +1,7 @@
 //! The answer to a script line over a table of contracts, and that it holds as it is printed.
 //!
-//! [`answer_line`] answers the operations that are built ([`is_built`]): a limit, a merge, a test, a refinement, a bound,
-//! a hiding and a composition. Each answer is the one that `specs/Answers` defines, a refusal by names first; it holds as it is printed, by
+//! [`answer_line`] answers the operations that are built ([`is_built`]): a limit, a merge, a test, a refinement, a bound
+//! and a hiding. Each answer is the one that `specs/Answers` defines, a refusal by names first; it holds as it is printed, by
 //! the definitions of `pa_holds` alone, so it is true, and the table can go past it. [`answers_hold`] and
 //! [`answers_are_true`] say the same of all lines of a script, each over the table that the earlier answers leave. Read
 //! `specs/Answers` first.
@@ -10,7 +10,6 @@
 mod answer;
 mod bounding;
 mod built;
-mod composing;
 mod hiding;
 mod laws;
 mod located;

@@ -8,7 +8,6 @@ use Rattle.std.proofs.lemmas.Cmp.{nat_list_eq_equiv}
 use Rattle.pa_math.proofs.Unions.{IsDistinct-apart, AreApart-flip}
 use Rattle.pa_meaning.specs.Contracts.{Named}
 use Rattle.pa_contract.specs.Named.{AreNew}
-use Rattle.pa_contract.specs.Nominal.{IsNominal}
 use Rattle.pa_contract.specs.WellFormed.{IsWellFormed}
 use Rattle.pa_script.specs.declared.op.ScriptLine.{ScriptLine}
 use Rattle.pa_script.specs.Ops.{IsWellFormedLine}
@@ -29,11 +28,8 @@ parts_new d h =
     AreApart-flip bytes_eq nat_list_eq_equiv (names_of d.contracts) (names_of d.parts)
     (IsDistinct-apart bytes_eq (names_of d.contracts) (names_of d.parts) both)
 
-pub diagram_formed : (d : Diagram) → IsDiagram d → IsNominal d.nominal → AreFormed (table_of d)
-diagram_formed d h values = record {
-  contracts = All-append (λ (n : Named). IsWellFormed n.contract) d.contracts d.parts h.contracts_fit h.parts_fit;
-  nominal = values;
-}
+pub diagram_formed : (d : Diagram) → IsDiagram d → AreFormed (table_of d)
+diagram_formed d h = All-append (λ (n : Named). IsWellFormed n.contract) d.contracts d.parts h.contracts_fit h.parts_fit
 
 -- each line asks for an operation that is built
 pub each_built : (lines : List ScriptLine) → all_built lines ≡ true → All (λ line. is_built line.op ≡ true) lines

@@ -1,3 +1,0 @@
-mod Places
-mod Turns
-pub mod Rows
