@@ -4,4 +4,5 @@ pub mod Meant
 pub mod OneMore
 pub mod Gone
 pub mod Defined
+pub mod Pairs
 pub mod Unlimited

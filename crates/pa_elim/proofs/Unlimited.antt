@@ -1,11 +1,11 @@
--- Where neither the given rows nor as many as the limit, over one column fewer, have more bases than the limit of pivots, no elimination uses the pivots up.
-use Rattle.std.proofs.Common.{◌≡◌, inl, inr, refl, sym, ap, ◌∙◌, subst, ℕ, zero, suc, pred, ◌+◌, ◌-◌, ◌<◌, ◌≤◌, List, [], ◌∷◌, ◌++◌, length, All, arith}
-use Rattle.std.proofs.Common.{Bool, true, false, cond, nat_le, nat_lt, Result, Ok, Err}
+-- Where neither the given rows nor as many as each step can make have more bases than the limit of pivots, no elimination uses the pivots up.
+use Rattle.std.proofs.Common.{◌≡◌, inl, inr, refl, sym, ap, ◌∙◌, subst, ℕ, zero, suc, pred, ◌+◌, ◌<◌, ◌≤◌, min, List, [], ◌∷◌, length, All, arith}
+use Rattle.std.proofs.Common.{Bool, true, false, cond, nat_lt, Result, Ok, Err}
 use Rattle.std.proofs.lemmas.List.Elements.{All-nil}
 use Rattle.pa_math.specs.Answers.{IsAnswer, and_then, told_as}
-use Rattle.pa_ring.specs.Choices.{choices}
 use Rattle.pa_meaning.specs.Rows.{Row}
-use Rattle.pa_witness.specs.Steps.{Two, step_count}
+use Rattle.pa_witness.specs.Steps.{Two, stepped, step_count}
+use Rattle.pa_witness.proofs.Fewer.{thinned_fewer}
 use Rattle.pa_witness.proofs.Widths.{stepped_columns}
 use Rattle.pa_row.specs.declared.place.Place.{Place}
 use Rattle.pa_row.specs.declared.place.Group.TheVariants as group
@@ -24,44 +24,45 @@ use Rattle.pa_elim.specs.declared.fault.ElimFault.{ElimFault}
 use Rattle.pa_elim.specs.declared.fault.ElimFault.TheVariants as fault
 use Rattle.pa_elim.specs.Projecting.{Projection, after_step, after_steps, elim_fault, eliminated_of, in_turn, made_in, pairs_fault, start_of, thinned_in}
 use Rattle.pa_elim.specs.Projecting.{with_step}
+use Rattle.pa_elim.specs.FewBases.{HaveFewBases, most_made}
 use Rattle.pa_elim.specs.Meant.{AreColumns}
 use Rattle.pa_elim.specs.Seen.{AreInTurn, CanStep, IsNext, IsStart}
 use Rattle.pa_elim.proofs.Steps.{next_can}
+use Rattle.pa_elim.proofs.InTurn.{length-in_turn_after}
+use Rattle.pa_elim.proofs.Pairs.{more_made, step_makes_few}
 use Rattle.pa_elim.proofs.Gone.{places_fit}
 use Rattle.pa_elim.proofs.Defined.{IsElimFault, IsMade, made_is, start_is, step_is}
 
 err_same : {A E : Type 0} (x y : E) → (let r : Result A E = Err x in r) ≡ Err y → x ≡ y
 err_same x y h = cc
 
--- ---- with fewer columns there are fewer bases
-more_columns : (rows n d : ℕ) → choices (rows + n) n ≤ choices (rows + (d + n)) (d + n)
-more_columns rows n zero = (let same : n ≡ 0 + n = omega arith in subst (λ m. choices (rows + n) n ≤ choices (rows + m) m) same (omega arith))
-more_columns rows n (suc d) =
-    let more = more_columns rows n d in
-    let one = one_column_more (d + n) in
-    let place : suc (d + n) ≡ suc d + n = omega arith in
-    subst (λ m. choices (rows + n) n ≤ choices (rows + m) m) place (omega (arith, more, one))
-  where
-    one_column_more : (m : ℕ) → choices (rows + m) m ≤ choices (rows + suc m) (suc m)
-    one_column_more m =
-        let place : suc (rows + m) ≡ rows + suc m = omega arith in
-        subst (λ k. choices (rows + m) m ≤ choices k (suc m)) place (omega arith)
+-- ---- with fewer rows at first there are fewer bases in each step
+fewer_rows : (fewer rows columns gone limit most : ℕ) → fewer ≤ rows → HaveFewBases rows columns gone limit most
+    → HaveFewBases fewer columns gone limit most
+fewer_rows fewer rows columns zero limit most less bases = fewer_bases fewer rows columns most less bases
+fewer_rows fewer rows columns (suc gone) limit most less bases =
+    let made = more_made fewer rows less in (
+      fewer_bases fewer rows columns most less bases.0,
+      fewer_rows (min limit (most_made fewer)) (min limit (most_made rows)) (pred columns) gone limit most (omega (arith, made)) bases.1,
+    )
 
-pub fewer_columns : (rows fewer columns most : ℕ) → fewer ≤ columns → HasFewBases rows columns most → HasFewBases rows fewer most
-fewer_columns rows fewer columns most less (small, enough) =
-    by (nat_le (choices (rows + fewer) fewer) 4096) (nat_le (choices (rows + columns) columns) 4096) refl refl small enough
-  where
-    up : choices (rows + fewer) fewer ≤ choices (rows + columns) columns
-    up =
-        let place : (columns - fewer) + fewer ≡ columns = omega (arith, less) in
-        subst (λ m. choices (rows + fewer) fewer ≤ choices (rows + m) m) place (more_columns rows fewer (columns - fewer))
+-- those of the first list are few
+first_few : (rows columns gone limit most : ℕ) → HaveFewBases rows columns gone limit most → HasFewBases rows columns most
+first_few rows columns zero limit most bases = bases
+first_few rows columns (suc gone) limit most bases = bases.0
 
-    by : (s t : Bool) → nat_le (choices (rows + fewer) fewer) 4096 ≡ s → nat_le (choices (rows + columns) columns) 4096 ≡ t
-        → cond t (choices (rows + columns) columns) 4097 ≤ 4096 → cond t (choices (rows + columns) columns) 4097 ≤ most
-        → (cond s (choices (rows + fewer) fewer) 4097 ≤ 4096) × (cond s (choices (rows + fewer) fewer) 4097 ≤ most)
-    by s false e f small enough = absurd (omega (arith, small))
-    by true true e f small enough = let less = up in (omega (arith, less, small), omega (arith, less, enough))
-    by false true e f small enough = let less = up in absurd (grind (arith, less, small, e))
+-- ---- how many rows a step makes, and leaves
+made_few : (limit k rows : ℕ) (old : List Row) → length old ≤ rows → step_count Two k old ≤ limit → step_count Two k old ≤ min limit (most_made rows)
+made_few limit k rows old less within =
+    let some = step_makes_few k old in
+    let more = more_made (length old) rows less in omega (arith, some, more, within)
+
+next_few : (limit n k rows : ℕ) (old next : Projection) → IsNext limit n k old next → length old.rows ≤ rows
+    → length next.rows ≤ min limit (most_made rows)
+next_few limit n k rows old next is less =
+    let fewer = thinned_fewer (pred n) (stepped Two k old.rows) is.drops in
+    let made = made_few limit k rows old.rows less is.within in
+    subst (λ (new : List Row). length new ≤ min limit (most_made rows)) (sym is.left) (omega (arith, fewer, made))
 
 -- ---- a step
 module _ (limit most : ℕ) (place : Place) where
@@ -100,10 +101,10 @@ module _ (limit most : ℕ) (place : Place) where
       same : length rows ≡ length rows + 0
       same = omega arith
 
-  -- the rows of a step are within the limit, over one column fewer
-  step_unlimited : limit ≤ 4096 → (n step k : ℕ) (p : Projection) → CanStep n p → k < n → HasFewBases limit (pred n) most
-      → IsLimited (after_step limit most n (suc step) k p) → ⊥
-  step_unlimited small n step k p can low bases =
+  -- a step makes no more rows than it can, nor than the limit
+  step_unlimited : limit ≤ 4096 → (n step k rows : ℕ) (p : Projection) → CanStep n p → k < n → length p.rows ≤ rows
+      → HasFewBases (min limit (most_made rows)) (pred n) most → IsLimited (after_step limit most n (suc step) k p) → ⊥
+  step_unlimited small n step k rows p can low less bases =
       by (made_in limit (suc step) k p.rows) (made_is limit most 0 (suc step) n step k p.rows can.columns (omega arith))
       (made_unlimited (suc step) k p.rows)
     where
@@ -115,22 +116,24 @@ module _ (limit most : ℕ) (place : Place) where
           → (IsLimited r → ⊥)
           → IsLimited (and_then r (λ made. and_then (thinned_in (pred n) most (suc step) made) (λ t. Ok (with_step p.steps t)))) → ⊥
       by (Ok new) h not =
-          let count : length new ≤ limit = subst (λ (rows : List Row). length rows ≤ limit) (sym h.ok.0) h.ok.1 in
+          let count : length new ≤ min limit (most_made rows) =
+          subst (λ (new : List Row). length new ≤ min limit (most_made rows)) (sym h.ok.0) (made_few limit k rows p.rows less h.ok.1) in
           thin (thinned_in (pred n) most (suc step) new)
           (thin_unlimited (pred n) (suc step) new
           (subst (All (λ (r : Row). length r.c ≡ pred n)) (sym h.ok.0) (stepped_columns Two n k p.rows low can.columns))
-          (omega (arith, count, small)) (omega (arith, can.short)) (fewer_bases (length new) limit (pred n) most count bases))
+          (omega (arith, count, small)) (omega (arith, can.short)) (fewer_bases (length new) (min limit (most_made rows)) (pred n) most count bases))
       by (Err e) h not = λ limited. not (ap Err (err_same {A = Projection} e (fault.PivotLimit place) limited))
 
   -- ---- steps one after another
-  steps_unlimited : limit ≤ 4096 → (n step : ℕ) (ks : List ℕ) (p : Projection) → CanStep n p → AreInTurn n ks → HasFewBases limit (pred n) most
-      → IsLimited (after_steps limit most n (suc step) ks p) → ⊥
-  steps_unlimited small n step [] p can turns bases = λ h. cc
-  steps_unlimited small n step (k ∷ ks) p can turns bases =
+  steps_unlimited : limit ≤ 4096 → (n step rows : ℕ) (ks : List ℕ) (p : Projection) → CanStep n p → AreInTurn n ks → length p.rows ≤ rows
+      → HaveFewBases rows n (length ks) limit most → IsLimited (after_steps limit most n (suc step) ks p) → ⊥
+  steps_unlimited small n step rows [] p can turns less bases = λ h. cc
+  steps_unlimited small n step rows (k ∷ ks) p can turns less bases =
       by (after_step limit most n (suc step) k p) (step_is limit most 0 (suc step) small n step k p can turns.0 (omega arith))
-      (step_unlimited small n step k p can turns.0 bases)
-      (λ next is. steps_unlimited small (pred n) (suc step) ks next (next_can limit n k p next is turns.0 small can) turns.1
-      (fewer_columns limit (pred (pred n)) (pred n) most (omega arith) bases))
+      (step_unlimited small n step k rows p can turns.0 less
+      (first_few (min limit (most_made rows)) (pred n) (length ks) limit most bases.1))
+      (λ next is. steps_unlimited small (pred n) (suc step) (min limit (most_made rows)) ks next (next_can limit n k p next is turns.0 small can) turns.1
+      (next_few limit n k rows p next is less) bases.1)
     where
       by : (r : Result Projection ElimFault) → Holds (IsNext limit n k p) (IsElimFault limit most 0 (suc step)) r → (IsLimited r → ⊥)
           → ((next : Projection) → IsNext limit n k p next → IsLimited (after_steps limit most (pred n) (suc (suc step)) ks next) → ⊥)
@@ -140,18 +143,22 @@ module _ (limit most : ℕ) (place : Place) where
 
 -- ---- an elimination
 module _ (limit most n : ℕ) (gone : List ℕ) (rows : List Row) (small : limit ≤ 4096) (columns : All (λ (r : Row). length r.c ≡ n) rows)
-    (few : length rows ≤ 4096) (short : n ≤ 128) (are : AreColumns n gone) (given_bases : HasFewBases (length rows) n most)
-    (step_bases : HasFewBases limit (pred n) most) where
+    (few : length rows ≤ 4096) (short : n ≤ 128) (are : AreColumns n gone)
+    (bases : HaveFewBases (length rows) n (length gone) limit most) where
   turns : AreInTurn n (in_turn gone)
   turns = places_fit n gone (in_turn gone) are refl
 
   start_unlimited : (place : Place) → start_of n most rows ≡ Err (fault.PivotLimit place) → ⊥
-  start_unlimited place = by (thinned_in n most 0 rows) (thin_unlimited limit most place n 0 rows columns few short given_bases)
+  start_unlimited place = by (thinned_in n most 0 rows) (thin_unlimited limit most place n 0 rows columns few short
+      (first_few (length rows) n (length gone) limit most bases))
     where
       by : (r : Result Thinning ElimFault) → (r ≡ Err (fault.PivotLimit place) → ⊥)
           → and_then r (λ t. Ok (with_step [] t)) ≡ Err (fault.PivotLimit place) → ⊥
       by (Ok t) not h = cc
       by (Err e) not h = not (ap Err (err_same {A = Projection} e (fault.PivotLimit place) h))
+
+  start_few : (start : Projection) → IsStart n rows start → length start.rows ≤ length rows
+  start_few start is = subst (λ (new : List Row). length new ≤ length rows) (sym is.left) (thinned_fewer n rows is.drops)
 
   pub eliminated_not_limited : (place : Place) → eliminated_of limit most n gone rows ≡ Err (fault.PivotLimit place) → ⊥
   eliminated_not_limited place =
@@ -161,7 +168,8 @@ module _ (limit most n : ℕ) (gone : List ℕ) (rows : List Row) (small : limit
           → Holds (λ p. IsStart n rows p × CanStep n p) (IsElimFault limit most (length rows) (length (in_turn gone))) r
           → (r ≡ Err (fault.PivotLimit place) → ⊥)
           → and_then r (after_steps limit most n 1 (in_turn gone)) ≡ Err (fault.PivotLimit place) → ⊥
-      by (Ok start) h not = steps_unlimited limit most place small n 0 (in_turn gone) start h.ok.1 turns step_bases
+      by (Ok start) h not = steps_unlimited limit most place small n 0 (length rows) (in_turn gone) start h.ok.1 turns (start_few start h.ok.0)
+          (subst (λ count. HaveFewBases (length rows) n count limit most) (sym (length-in_turn_after [] gone)) bases)
       by (Err e) h not = λ limited. not (ap Err (err_same {A = Projection} e (fault.PivotLimit place) limited))
 
   -- the answers of the call

@@ -1,5 +1,6 @@
 pub mod Projecting
 pub mod Meant
+pub mod FewBases
 pub mod Seen
 pub use Rattle.pa_witness.specs.Columns
 pub use Rattle.pa_witness.specs.Steps

@@ -4,7 +4,7 @@
 //! weights that show it needless.
 //!
 //! Read [`eliminate`] first. What its answer says stands in `specs/Meant`, which answer it is and where a fault stands in
-//! `specs/Projecting`.
+//! `specs/Projecting`, and when a limit of pivots is never met in `specs/FewBases`.
 #![tactic(auto)]
 
 mod fault;

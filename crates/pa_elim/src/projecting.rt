@@ -1,12 +1,12 @@
 // Several columns eliminated one after another.
-ghost use Rattle.std.specs.Prelude.{◌≡◌, ◌≤◌, ◌+◌, [], All, Err, IfOk, length, pred};
+ghost use Rattle.std.specs.Prelude.{◌≡◌, ◌≤◌, ◌+◌, [], All, Err, IfOk, length};
 ghost use Rattle.pa_math.specs.Answers.{IsAnswer};
 ghost use Rattle.pa_tableau.specs.Work.{HasRoom};
 ghost use Rattle.pa_bland.specs.Seen.{KeepsRoom};
 ghost use Rattle.pa_row.specs.declared.place.Place.{Place};
-ghost use Rattle.pa_farkas.specs.FewBases.{HasFewBases};
 ghost use Rattle.pa_elim.specs.Projecting as spec;
 ghost use Rattle.pa_elim.specs.Meant.{AreColumns, HoldsAsProjected, IsProjection};
+ghost use Rattle.pa_elim.specs.FewBases.{HaveFewBases};
 ghost use Rattle.pa_elim.specs.Seen.{AreFollowed, AreInTurn, CanStep, IsStart};
 
 use crate::ElimFault;
@@ -130,8 +130,12 @@ fn from_given(
 /// them. `RowLimit` exactly where a step would make more rows than `limits.rows`, with the step and that number, before one
 /// of its rows is made; the given rows are not counted. `PivotLimit` and `Wide` come with their place: the tasks are `Clean`
 /// and `Filter` of the given rows, as step 0, and then `Pairs`, `Clean` and `Filter` of each step. The first refusal of this
-/// order is answered. `Memory` where memory runs out. `PivotLimit` never comes where `most_bases` of the numbers of rows and of
-/// columns, and of `limits.rows` and one column fewer, are at most `limits.pivots`.
+/// order is answered. `Memory` where memory runs out.
+///
+/// `PivotLimit` never comes where neither the given rows over all columns, nor in any step as many rows as it can make over
+/// the columns that are left, have more bases (`pa_bland::most_bases`) than `limits.pivots`. Of `r` rows a step can make `r`,
+/// or a quarter of `r * r` where that is more, and at most `limits.rows`. By limits of 1,024 rows and 4,096 pivots that is so
+/// for 8 rows over 4 columns, whichever go: they give 16 rows over 3, 64 over 2 and 1,024 over 1.
 pub fn eliminate(
     alloc: Global,
     rows: &[Row],
@@ -149,7 +153,7 @@ pub fn eliminate(
     ensures columns { IfOk result (λ p. All (λ r. length r.c + length gone.now ≡ columns) p.rows) }
     ensures few { IfOk result (λ p. length p.rows ≤ 4096) }
     ensures steps { IfOk result (λ p. length p.steps ≡ length gone.now + 1) }
-    ensures unlimited { HasFewBases (length rows.now) columns limits.pivots → HasFewBases limits.rows (pred columns) limits.pivots
+    ensures unlimited { HaveFewBases (length rows.now) columns (length gone.now) limits.rows limits.pivots
         → (place : Place) → result ≡ Err (ElimFault.PivotLimit place) → ⊥ }
 {
     let Ok(places) = places_in_turn(alloc, gone) else {

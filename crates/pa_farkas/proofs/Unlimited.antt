@@ -213,6 +213,11 @@ from_due due (Err e) (inl free) not place h = wrong (sym free ∙ err_same e (ha
     wrong h = cc
 from_due due (Err e) (inr is) not place h = not place (is ∙ h)
 
+pub solved_unlimited : (task : Task) (sub : Sub) (rows : List Row) (target : List ℤ) (most : ℕ) (result : Result Answer Halt)
+    → IsAnswer halt.Memory (solved_for task sub rows target most) result → HasFewBases (length rows) (length target) most → IsNotLimited result
+solved_unlimited task sub rows target most result answer few =
+    from_due (solved_for task sub rows target most) result answer (solved_not_limited task sub rows target most few)
+
 pub implied_not_limited : (rows : List Row) (row : Row) (most : ℕ) (task : Task) → HasFewBases (length rows) (length row.c) most
     → IsNotLimited (implied_of rows row most task)
 implied_not_limited rows row most task few =

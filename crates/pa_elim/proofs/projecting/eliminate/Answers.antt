@@ -41,8 +41,8 @@ returns-clause-steps c =
     c.requires.gone)
 
 pub returns-clause-unlimited : goal.returns-clause-unlimited
-returns-clause-unlimited c given_bases step_bases =
+returns-clause-unlimited c bases =
     eliminated_unlimited c.args.limits.rows c.args.limits.pivots c.args.columns c.args.gone.now c.args.rows.now c.args.limits.rows_in_range.greatest
-    c.requires.columns c.requires.few c.requires.short c.requires.gone given_bases step_bases c.from_given.result
+    c.requires.columns c.requires.few c.requires.short c.requires.gone bases c.from_given.result
     (subst (λ (places : List ℕ). IsAnswer fault.Memory (projected_of c.args.limits.rows c.args.limits.pivots c.args.columns places c.args.rows.now)
     c.from_given.result) (c.deref.ensures.value ∙ c.in-Ok.ensures) c.from_given.ensures.answer)
