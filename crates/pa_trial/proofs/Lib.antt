@@ -1,0 +1,5 @@
+pub mod AtNominal
+pub mod Behind
+pub mod NominalPoints
+pub mod Trials
+pub mod Unlimited
