@@ -86,8 +86,13 @@ module _ (names : List Name) where
       (turns_from gone (suc i) (xs ++ y ∷ []) ys (subst (IsDistinct bytes_eq) (sym (append_assoc xs (y ∷ []) ys)) d) (behind_kept gone i xs y moved))
       (turns_from (gone ++ length xs ∷ []) (suc i) xs ys (still_distinct xs ys y d) (behind_gone gone i xs moved))
 
+  -- those of the names ys go, where the names xs stand before them
+  pub turns_behind : (xs ys : List Name) → IsDistinct bytes_eq (xs ++ ys)
+      → in_turn (columns_from names (length xs) ys) ≡ places_for (xs ++ ys) (filter (is_among names) ys)
+  turns_behind xs ys d = turns_from [] (length xs) xs ys d (λ m. refl)
+
   pub columns_in_turn : (c : Contract) → IsDistinct bytes_eq (ports c) → in_turn (hidden_columns c names) ≡ places_for (ports c) (hidden_names c names)
-  columns_in_turn c d = turns_from [] (length c.inputs) c.inputs c.outputs d (λ m. refl)
+  columns_in_turn c d = turns_behind c.inputs c.outputs d
 
 -- names that are there stand at columns that are left when their turns come
 pub there_in_turn : (names gone : List Name) → AreThere names gone → AreInTurn (length names) (places_for names gone)
@@ -104,7 +109,7 @@ length-places_for names (g ∷ gone) = ap suc (length-places_for (without (place
 
 -- ---- the columns that go are different columns of the contract's, one for each name
 module _ (names : List Name) where
-  as_many : (i : ℕ) (ys : List Name) → length (columns_from names i ys) ≡ length (filter (is_among names) ys)
+  pub as_many : (i : ℕ) (ys : List Name) → length (columns_from names i ys) ≡ length (filter (is_among names) ys)
   as_many i [] = refl
   as_many i (y ∷ ys) = by (is_among names y) (as_many (suc i) ys)
     where
@@ -144,8 +149,11 @@ module _ (names : List Name) where
       by true rest = All-cons (λ k. k < n) i (columns_from names (suc i) ys) (omega (arith, low)) rest
       by false rest = rest
 
-  pub hidden_are_columns : (c : Contract) → AreColumns (length (ports c)) (hidden_columns c names)
-  hidden_are_columns c = record {
-    distinct = columns_distinct (length c.inputs) c.outputs;
-    placed = columns_below (length (ports c)) (length c.inputs) c.outputs (let all = length-append c.inputs c.outputs in omega (arith, all));
+  pub columns_behind : (xs ys : List Name) → AreColumns (length (xs ++ ys)) (columns_from names (length xs) ys)
+  columns_behind xs ys = record {
+    distinct = columns_distinct (length xs) ys;
+    placed = columns_below (length (xs ++ ys)) (length xs) ys (let all = length-append xs ys in omega (arith, all));
   }
+
+  pub hidden_are_columns : (c : Contract) → AreColumns (length (ports c)) (hidden_columns c names)
+  hidden_are_columns c = columns_behind c.inputs c.outputs

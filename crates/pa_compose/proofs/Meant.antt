@@ -1,5 +1,5 @@
 -- What an elimination of the guarantees shows is what is printed of hidden outputs, and what that means.
-use Rattle.std.proofs.Common.{◌≡◌, refl, sym, ap, ap₂, ◌∙◌, subst, ℕ, suc, List, [], ◌∷◌, ◌++◌, append_assoc, add-one, length, length-append, map, not}
+use Rattle.std.proofs.Common.{◌≡◌, refl, sym, ap, ap₂, ◌∙◌, subst, ℕ, suc, ◌+◌, List, [], ◌∷◌, ◌++◌, append_assoc, add-one, length, length-append, map, not}
 use Rattle.std.proofs.Common.{Bool, true, false, None, Some, ◌≤◌, arith}
 use Rattle.std.proofs.lemmas.List.{length-map}
 use Rattle.std.proofs.lemmas.List.Elements.{All-nil, All-cons}
@@ -19,7 +19,7 @@ use Rattle.pa_contract.specs.WellFormed.{IsWellFormed}
 use Rattle.pa_farkas.proofs.Filters.{read_there}
 use Rattle.pa_cert.specs.Lists.{HiddenAnswer}
 use Rattle.pa_cert.specs.declared.answer.Answer.TheVariants.{Hidden}
-use Rattle.pa_holds.specs.Composed.{AreNamed, HoldsAsHidden}
+use Rattle.pa_holds.specs.Composed.{AreNamed, EliminationHolds, HoldsAsHidden, eliminated_rows, elimination_of}
 use Rattle.pa_holds.specs.Questions.{Hiding}
 use Rattle.pa_holds.specs.Refusals.{due_hide}
 use Rattle.pa_holds.proofs.Composed.{hidden_is_true}
@@ -58,34 +58,43 @@ pub steps_named : (gone : List Name) (s : Step) (steps : List Step) → length s
 steps_named gone s steps same = ap (λ rest. None ∷ rest) (rest_named [] gone steps same)
 
 -- ---- what is printed
-module _ (c : Contract) (names : List Name) (limit : ℕ) (w : IsWellFormed c) where
-  abbrev gone : List Name
-  gone = hidden_names c names
+-- the names of the steps and their drops, as they are printed, and the rows that they leave
+pub record IsPrinted (limit : ℕ) (names : List Name) (rows : List Row) (gone : List Name) (p : Projection) : Type 0 where
+  pub count : length p.steps ≡ length gone + 1
+  pub named : AreNamed gone (named_steps gone 0 p.steps)
+  pub elimination : EliminationHolds Two limit names rows gone (elimination_of (named_steps gone 0 p.steps))
+  pub left : p.rows ≡ eliminated_rows Two names rows gone (elimination_of (named_steps gone 0 p.steps))
 
-  by_names : (p : Projection) → HoldsAsProjected limit (length (ports c)) c.guarantees (in_turn (hidden_columns c names)) p
-      → HoldsAsProjected limit (length (ports c)) c.guarantees (places_for (ports c) gone) p
-  by_names p h = subst (λ ks. HoldsAsProjected limit (length (ports c)) c.guarantees ks p) (columns_in_turn names c w.distinct) h
-
-  printed_by : (rows : List Row) (steps : List Step) → StepsAreShown limit (length (ports c)) c.guarantees (places_for (ports c) gone) steps
-      → rows ≡ rows_by (length (ports c)) c.guarantees (places_for (ports c) gone) steps
-      → HoldsAsHidden Two limit c names (hidden_by c names (record { rows = rows; steps = steps }))
-  printed_by rows [] shown left = absurd shown
-  printed_by rows (s ∷ steps) shown left =
-      let there = hidden_there c names w.distinct in
-      let first : List Row = thinned (length (ports c)) c.guarantees s.drops in
+module _ (limit : ℕ) (names : List Name) (rows : List Row) (gone : List Name) (there : AreThere names gone) where
+  printed_by : (new : List Row) (steps : List Step) → StepsAreShown limit (length names) rows (places_for names gone) steps
+      → new ≡ rows_by (length names) rows (places_for names gone) steps
+      → IsPrinted limit names rows gone (record { rows = new; steps = steps })
+  printed_by new [] shown left = absurd shown
+  printed_by new (s ∷ steps) shown left =
+      let first : List Row = thinned (length names) rows s.drops in
       let drops : map (λ t. t.drops) (named_steps gone 1 steps) ≡ drops_of steps = steps_drops gone 1 steps in
-      let hold = steps_by_columns Two limit (ports c) first gone (drops_of steps) there shown.1 in
+      let hold = steps_by_columns Two limit names first gone (drops_of steps) there shown.1 in
+      let same : length steps ≡ length gone =
+      sym (length-map steps (λ t. t.drops)) ∙ steps_match Two limit names first gone (drops_of steps) hold in
       record {
-        named = steps_named gone s steps
-            (sym (length-map steps (λ t. t.drops)) ∙ steps_match Two limit (ports c) first gone (drops_of steps) hold);
-        elimination = record { first = shown.0; steps = subst (StepsHold Two limit (ports c) first gone) (sym drops) hold };
-        contract = ap (without_outputs c names) (left ∙ sym (projected_by_columns Two (ports c) first gone (drops_of steps) there)
-            ∙ ap (projected Two (ports c) first gone) (sym drops));
+        count = omega (arith, same);
+        named = steps_named gone s steps same;
+        elimination = record { first = shown.0; steps = subst (StepsHold Two limit names first gone) (sym drops) hold };
+        left = left ∙ sym (projected_by_columns Two names first gone (drops_of steps) there) ∙ ap (projected Two names first gone) (sym drops);
       }
 
+  -- what holds of columns is printed of their names
+  pub is_printed : (p : Projection) → HoldsAsProjected limit (length names) rows (places_for names gone) p → IsPrinted limit names rows gone p
+  is_printed p h = printed_by p.rows p.steps h.steps h.left
+
+-- ---- hidden outputs
+module _ (c : Contract) (names : List Name) (limit : ℕ) (w : IsWellFormed c) where
   pub hidden_printed : (p : Projection) → HoldsAsProjected limit (length (ports c)) c.guarantees (in_turn (hidden_columns c names)) p
       → HoldsAsHidden Two limit c names (hidden_by c names p)
-  hidden_printed p h = let at = by_names p h in printed_by p.rows p.steps at.steps at.left
+  hidden_printed p h =
+      let printed = is_printed limit (ports c) c.guarantees (hidden_names c names) (hidden_there c names w.distinct) p
+      (subst (λ ks. HoldsAsProjected limit (length (ports c)) c.guarantees ks p) (columns_in_turn names c w.distinct) h) in
+      record { named = printed.named; elimination = printed.elimination; contract = ap (without_outputs c names) printed.left }
 
   -- what holds as it is printed is hidden
   pub hidden_true : (a : HiddenAnswer) → HoldsAsHidden Two limit c names a → IsHidden c names a.contract

@@ -1,10 +1,10 @@
 // The outputs that go, in the order in which the contract has them: their names and their columns.
-ghost use Rattle.std.specs.Prelude.{◌≡◌, IfOk};
+ghost use Rattle.std.specs.Prelude.{◌≡◌, ◌≤◌, IfOk};
 ghost use Rattle.pa_compose.specs.Hiding as spec;
 
-use crate::names::has;
 use pa_contract::Contract;
 use pa_names::{Name, Names};
+use pa_parts::has;
 use std::alloc::{AllocError, Global};
 
 /// The names of the outputs that go.
@@ -28,7 +28,26 @@ pub(crate) fn hidden_names(
     Ok(gone)
 }
 
-/// Their columns: an output's column stands behind those of the inputs.
+/// The columns of those of these outputs that go, where the first output has this column.
+pub(crate) fn columns_of(
+    alloc: Global,
+    outputs: &Names,
+    gone: &Names,
+    first: u32,
+) -> Result<Vec<u32>, AllocError>
+    requires { first ≤ 4096 }
+    ensures { IfOk result (λ columns. columns.items ≡ spec.columns_from gone.now first outputs.now) }
+{
+    let mut columns = Vec::new(alloc);
+    for place in 0..outputs.len() {
+        if has(gone, outputs.at(place)) {
+            columns.push(first + place)?;
+        }
+    }
+    Ok(columns)
+}
+
+/// The columns of the outputs of a contract that go: an output's column stands behind those of the inputs.
 pub(crate) fn hidden_columns(
     alloc: Global,
     contract: &Contract,
@@ -36,12 +55,5 @@ pub(crate) fn hidden_columns(
 ) -> Result<Vec<u32>, AllocError>
     ensures { IfOk result (λ columns. columns.items ≡ spec.hidden_columns contract.now names.now) }
 {
-    let first = contract.inputs.len();
-    let mut columns = Vec::new(alloc);
-    for place in 0..contract.outputs.len() {
-        if has(names, contract.outputs.at(place)) {
-            columns.push(first + place)?;
-        }
-    }
-    Ok(columns)
+    columns_of(alloc, &contract.outputs, names, contract.inputs.len())
 }

@@ -1,5 +1,5 @@
 // A contract without some of its outputs.
-ghost use Rattle.std.specs.Prelude.{◌≡◌, ◌≤◌, ◌+◌, ◌⊎◌, Err, IfErr, IfOk, IsSome, None, length, pred};
+ghost use Rattle.std.specs.Prelude.{◌≡◌, ◌≤◌, ◌+◌, ◌⊎◌, Err, IfErr, IfOk, IsSome, None, length};
 ghost use Rattle.pa_math.specs.Answers.{IsAnswer};
 ghost use Rattle.pa_meaning.specs.Contracts.{ports};
 ghost use Rattle.pa_meaning.specs.Composition.{IsHidden};
@@ -9,18 +9,18 @@ ghost use Rattle.pa_contract.specs.WellFormed.{IsWellFormed};
 ghost use Rattle.pa_holds.specs.Composed.{HoldsAsHidden};
 ghost use Rattle.pa_holds.specs.Refusals.{due_hide, first_missing};
 ghost use Rattle.pa_row.specs.declared.place.Place.{Place};
-ghost use Rattle.pa_farkas.specs.FewBases.{HasFewBases};
+ghost use Rattle.pa_elim.specs.FewBases.{HaveFewBases};
 ghost use Rattle.pa_compose.specs.Hiding as spec;
 
 use crate::HideFault;
 use crate::fault::hide_fault;
 use crate::gone::{hidden_columns, hidden_names};
-use crate::names::first_missing_name;
 use crate::steps::named;
 use pa_cert::Hidden;
 use pa_contract::{Contract, MOST_ROWS};
 use pa_elim::{Projected, eliminate};
 use pa_names::{Name, Names};
+use pa_parts::first_missing_name;
 use pa_row::{Limits, Row, copy_rows};
 use std::alloc::{AllocError, Global};
 
@@ -143,8 +143,8 @@ fn hidden(
     ensures exact { IsAnswer HideFault.Memory (spec.hidden_rows contract.now names.now limits.rows limits.pivots) result }
     ensures truth { IfOk result (λ answer. IsHidden contract.now names.now answer.contract) }
     ensures printed { IfOk result (HoldsAsHidden Two limits.rows contract.now names.now) }
-    ensures unlimited { HasFewBases (length contract.now.guarantees) (length (ports contract.now)) limits.pivots
-        → HasFewBases limits.rows (pred (length (ports contract.now))) limits.pivots
+    ensures unlimited { HaveFewBases (length contract.now.guarantees) (length (ports contract.now))
+        (length (spec.hidden_names contract.now names.now)) limits.rows limits.pivots
         → (place : Place) → result ≡ Err (HideFault.PivotLimit place) → ⊥ }
 {
     show_well_formed(contract);
@@ -170,8 +170,11 @@ fn not_output(alloc: Global, name: &Name) -> HideFault
 /// Refused, in this order, exactly where a name is no output (`NotOutput`, the first such name), and where the contract has
 /// more than 4,096 rows (`Load`); then, as they come, `RowLimit` exactly where a step would make more rows than
 /// `limits.rows`, before one of its rows is made, and `PivotLimit` and `Wide` with their place. `Memory` comes where memory
-/// runs out once names and rows refuse nothing, or as the missing name is copied. `PivotLimit` never comes where `most_bases`
-/// of the numbers of guarantees and of ports, and of `limits.rows` and one port fewer, are at most `limits.pivots`.
+/// runs out once names and rows refuse nothing, or as the missing name is copied.
+///
+/// `PivotLimit` never comes where neither the guarantees over the ports, nor for any hidden output as many rows as its step
+/// can make over the ports that are left, have more bases than `limits.pivots`, as [`pa_elim::eliminate`] says it. By limits
+/// of 1,024 rows and 4,096 pivots that is so for 8 guarantees over 4 ports, whatever is hidden, and for 10 where one output is.
 pub fn hide(
     alloc: Global,
     contract: &Contract,
@@ -184,8 +187,8 @@ pub fn hide(
     ensures refused { IfOk result (λ _. due_hide contract.now names.now ≡ None) }
     ensures memory { IfErr result (λ fault. fault ≡ HideFault.Memory
         → (due_hide contract.now names.now ≡ None) ⊎ IsSome (first_missing contract.now.outputs names.now)) }
-    ensures unlimited { HasFewBases (length contract.now.guarantees) (length (ports contract.now)) limits.pivots
-        → HasFewBases limits.rows (pred (length (ports contract.now))) limits.pivots
+    ensures unlimited { HaveFewBases (length contract.now.guarantees) (length (ports contract.now))
+        (length (spec.hidden_names contract.now names.now)) limits.rows limits.pivots
         → (place : Place) → result ≡ Err (HideFault.PivotLimit place) → ⊥ }
 {
     if let Some(name) = first_missing_name(&contract.outputs, names) {

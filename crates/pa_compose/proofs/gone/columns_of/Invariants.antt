@@ -1,6 +1,6 @@
 use Rattle.pa_compose.proofs.Goes.{AreColumnsTo}
-use Rattle.pa_compose.proofs.gone.hidden_columns.Given as goal
+use Rattle.pa_compose.proofs.gone.columns_of.Given as goal
 
 -- the columns so far and those of the rest are all
 abbrev pub invariant-loop-place : goal.invariant-loop-place
-invariant-loop-place l = AreColumnsTo l.contract l.names l.place l.columns.items
+invariant-loop-place l = AreColumnsTo l.outputs l.first l.gone l.place l.columns.items
