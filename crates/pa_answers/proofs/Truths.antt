@@ -1,6 +1,6 @@
 -- The answer to each line holds over the table as it is printed, by definitions alone, and the table can go past it: so all answers of
 -- a script hold, each over the table that the earlier ones leave, and are true.
-use Rattle.std.proofs.Common.{◌≡◌, List, [], ◌∷◌, refl, sym, ap, subst, Option, Some, None, Result, Ok, Err}
+use Rattle.std.proofs.Common.{◌≡◌, ◌∙◌, suc, length, List, [], ◌∷◌, refl, sym, ap, subst, Option, Some, None, Result, Ok, Err}
 use Rattle.std.proofs.Common.{Bool, true, false, cond, All, IfOk, option_map}
 use Rattle.std.specs.Prelude.{option_and_then, is_some, IfSome}
 use Rattle.std.proofs.lemmas.List.Elements.{All-cons, All-head, All-nil, All-tail}
@@ -11,6 +11,7 @@ use Rattle.pa_witness.specs.Steps.{Two}
 use Rattle.pa_row.specs.Steps.{IsLimit}
 use Rattle.pa_contract.specs.Merge.{merge_of}
 use Rattle.pa_contract.specs.Named.{contract_named, contracts_named}
+use Rattle.pa_contract.specs.Nominal.{IsNominal}
 use Rattle.pa_contract.specs.WellFormed.{IsWellFormed}
 use Rattle.pa_script.specs.declared.op.ScriptLine.{ScriptLine}
 use Rattle.pa_script.specs.declared.op.Op.{Op}
@@ -19,18 +20,21 @@ use Rattle.pa_script.specs.Ops.{operands, result_of, IsPointOf, IsGoal, IsWellFo
 use Rattle.pa_cert.specs.declared.answer.LineAnswer.{LineAnswer}
 use Rattle.pa_cert.specs.declared.answer.LineAnswer.TheVariants.{Set, Unknown, Taken, Answered as AnsweredBy}
 use Rattle.pa_cert.specs.Tables.{Table, Answered, contract_of, IsFree, CanAdvance, advanced, with_answer, with_limit}
-use Rattle.pa_holds.specs.Questions.{Question, Merging, Testing, Refining, Bounding, Hiding}
+use Rattle.pa_holds.specs.Questions.{Question, Merging, Testing, Refining, Bounding, Hiding, Composing, Dividing}
 use Rattle.pa_holds.specs.Tables.{unknown, taken, question_of, IsTrueOf, HoldsOver, AreTrue, HoldEach}
-use Rattle.pa_holds.proofs.Tables.{OfSome, one_has, line_is_true, report_is_true}
+use Rattle.pa_holds.proofs.Tables.{OfSome, all_have, one_has, line_is_true, report_is_true}
 use Rattle.pa_holds.proofs.Lookups.{known_named, named_one, named_two, two_asks, line_holds}
 use Rattle.pa_holds.proofs.Stays.{formed_are_distinct, printed_table_stays}
 use Rattle.pa_refine.specs.Refining.{refined_of}
 use Rattle.pa_refine.specs.Bounding.{bounded_of}
 use Rattle.pa_compose.specs.Hiding.{hidden_of}
-use Rattle.pa_answers.specs.Built.{is_built}
-use Rattle.pa_answers.specs.Answers.{merge_answer, test_answer, refine_answer, bound_answer, hide_answer, answer_on, answer_of}
-use Rattle.pa_answers.specs.Answers.{answered, answers_from, past, AreFormed}
+use Rattle.pa_compose.specs.Composing.{composed_of}
+use Rattle.pa_quotient.specs.Dividing.{divided_of}
+use Rattle.pa_answers.specs.Answers.{merge_answer, test_answer, refine_answer, bound_answer, hide_answer, compose_answer, answer_on, answer_of}
+use Rattle.pa_answers.specs.Answers.{quotient_answer, answered, answers_from, first_unknown, past, AreFormed}
 use Rattle.pa_answers.proofs.Questions.{HoldsTo, merge_told, test_told, refine_told, bound_told, hide_told}
+use Rattle.pa_answers.proofs.Compositions.{compose_told}
+use Rattle.pa_answers.proofs.Quotients.{quotient_told}
 
 -- ---- the answer by what is due first
 answer_unknown : (table : Table) (op : Op) (name : Name) → unknown table.contracts op ≡ Some name → answer_of table op ≡ Unknown name
@@ -68,12 +72,36 @@ pub hide_given : (table : Table) (result of : Name) (names : List Name) (c : Con
     → answer_of table (Hide result of names) ≡ hide_answer (hidden_of c names table.limits.rows table.limits.pivots)
 hide_given table result of names c h free = rw (h, free) refl
 
+pub compose_given : (table : Table) (result : Name) (names keep : List Name) (cs : List Contract) → first_unknown table names ≡ None
+    → is_some (contract_named table.contracts result) ≡ false → contracts_named table.contracts names ≡ Some cs
+    → answer_of table (Compose result names keep) ≡ compose_answer cs (composed_of cs keep table.nominal table.limits.rows table.limits.pivots)
+compose_given table result names keep cs known free named = rw (known, free, named) refl
+
+pub quotient_given : (table : Table) (result whole part : Name) (a b : Contract) → contract_named table.contracts whole ≡ Some a
+    → contract_named table.contracts part ≡ Some b → is_some (contract_named table.contracts result) ≡ false
+    → answer_of table (Quotient result whole part) ≡ quotient_answer b (divided_of a b table.nominal table.limits.pivots)
+quotient_given table result whole part a b h k free = rw (h, k, free) refl
+
+-- as many contracts are found as are named
+pub named_many : (table : Table) (names : List Name) (cs : List Contract) → contracts_named table.contracts names ≡ Some cs → length cs ≡ length names
+named_many table [] cs h = let is : cs ≡ [] = cc in ap length is
+named_many table (n ∷ ns) cs h = by (contract_named table.contracts n) (contracts_named table.contracts ns) h (named_many table ns)
+  where
+    by : (o : Option Contract) (rest : Option (List Contract)) → option_and_then (λ c. option_map (λ cs. c ∷ cs) rest) o ≡ Some cs
+        → ((ds : List Contract) → rest ≡ Some ds → length ds ≡ length ns) → length cs ≡ length (n ∷ ns)
+    by None rest h later = absurd (cc)
+    by (Some c) None h later = absurd (cc)
+    by (Some c) (Some ds) h later = let is : cs ≡ c ∷ ds = cc in ap length is ∙ ap (λ k. suc k) (later ds refl)
+
 module _ (table : Table) (formed : AreFormed table) (limited : IsLimit table.limits.rows) where
   abbrev Holds : Op → LineAnswer → Type 0
   Holds op answer = HoldsOver Two table op answer
 
   found_formed : (name : Name) (c : Contract) → contract_named table.contracts name ≡ Some c → IsWellFormed c
-  found_formed name c is = subst (OfSome IsWellFormed) is (one_has IsWellFormed table.contracts name formed)
+  found_formed name c is = subst (OfSome IsWellFormed) is (one_has IsWellFormed table.contracts name formed.contracts)
+
+  all_formed : (names : List Name) (cs : List Contract) → contracts_named table.contracts names ≡ Some cs → All IsWellFormed cs
+  all_formed names cs is = subst (OfSome (All IsWellFormed)) is (all_have IsWellFormed table.contracts names formed.contracts)
 
   -- what its question is told holds of the line
   line_told : (op : Op) (q : Question) (answer : LineAnswer) → taken table.contracts op ≡ None → question_of table.contracts op ≡ Some q
@@ -126,36 +154,53 @@ module _ (table : Table) (formed : AreFormed table) (limited : IsLimit table.lim
       (line_told op (Hiding c names) (hide_answer (hidden_of c names table.limits.rows table.limits.pivots)) free
       (ap (option_map (λ c. Hiding c names)) h) (hide_told table.limits c names (found_formed of c h) limited.greatest))
 
-  -- ---- any line
-  on_all : (op : Op) → is_built op ≡ true → IsWellFormedOp op → (cs : List Contract) → contracts_named table.contracts (operands op) ≡ Some cs
-      → taken table.contracts op ≡ None → Holds op (answer_on table op cs)
-  on_all (LimitRows most) built w cs named free = tt
-  on_all (LimitPivots most) built w cs named free = tt
-  on_all (Merge result left right) built w cs named free = on_merge result left right cs named free
-  on_all (Test of names x) built w cs named free = on_test of names x w cs named
-  on_all (Refine left right) built w cs named free = on_refine left right cs named
-  on_all (Bound of least goal) built w cs named free = on_bound of least goal w cs named
-  on_all (Hide result of names) built w cs named free = on_hide result of names cs named free
-  on_all (Compose result parts keep) built w cs named free = absurd (cc)
-  on_all (Quotient result whole part) built w cs named free = absurd (cc)
+  on_compose : (result : Name) (names keep : List Name) (cs : List Contract) → contracts_named table.contracts names ≡ Some cs
+      → taken table.contracts (Compose result names keep) ≡ None → Holds (Compose result names keep) (answer_on table (Compose result names keep) cs)
+  on_compose result names keep cs named free =
+      line_told (Compose result names keep) (Composing cs keep)
+      (compose_answer cs (composed_of cs keep table.nominal table.limits.rows table.limits.pivots)) free (ap (option_map (λ ps. Composing ps keep)) named)
+      (compose_told table.limits cs keep table.nominal limited.greatest (all_formed names cs named) formed.nominal)
 
-  by_due : (op : Op) → is_built op ≡ true → IsWellFormedOp op → (first there : Option Name) → unknown table.contracts op ≡ first
+  on_quotient : (result whole part : Name) (cs : List Contract) → contracts_named table.contracts (whole ∷ part ∷ []) ≡ Some cs
+      → taken table.contracts (Quotient result whole part) ≡ None → Holds (Quotient result whole part) (answer_on table (Quotient result whole part) cs)
+  on_quotient result whole part cs named free =
+      let op = Quotient result whole part in
+      let (a, b, h, k, is) = named_two table.contracts whole part cs named in
+      subst (λ cs. Holds op (answer_on table op cs)) (sym is)
+      (line_told op (Dividing a b) (quotient_answer b (divided_of a b table.nominal table.limits.pivots)) free
+      (two_asks table.contracts (λ c d. Dividing c d) whole part a b h k)
+      (quotient_told table.limits a b table.nominal (found_formed whole a h) (found_formed part b k) formed.nominal))
+
+  -- ---- any line
+  on_all : (op : Op) → IsWellFormedOp op → (cs : List Contract) → contracts_named table.contracts (operands op) ≡ Some cs
+      → taken table.contracts op ≡ None → Holds op (answer_on table op cs)
+  on_all (LimitRows most) w cs named free = tt
+  on_all (LimitPivots most) w cs named free = tt
+  on_all (Merge result left right) w cs named free = on_merge result left right cs named free
+  on_all (Test of names x) w cs named free = on_test of names x w cs named
+  on_all (Refine left right) w cs named free = on_refine left right cs named
+  on_all (Bound of least goal) w cs named free = on_bound of least goal w cs named
+  on_all (Hide result of names) w cs named free = on_hide result of names cs named free
+  on_all (Compose result parts keep) w cs named free = on_compose result parts keep cs named free
+  on_all (Quotient result whole part) w cs named free = on_quotient result whole part cs named free
+
+  by_due : (op : Op) → IsWellFormedOp op → (first there : Option Name) → unknown table.contracts op ≡ first
       → taken table.contracts op ≡ there → Holds op (answer_of table op)
-  by_due op built w (Some name) there h k = subst (Holds op) (sym (answer_unknown table op name h)) h
-  by_due op built w None (Some name) h k = subst (Holds op) (sym (answer_taken table op name h k)) (h, k)
-  by_due op built w None None h k =
+  by_due op w (Some name) there h k = subst (Holds op) (sym (answer_unknown table op name h)) h
+  by_due op w None (Some name) h k = subst (Holds op) (sym (answer_taken table op name h k)) (h, k)
+  by_due op w None None h k =
       let (cs, named) = known_named table.contracts (operands op) h in
-      subst (Holds op) (sym (answer_given table op cs h k named)) (on_all op built w cs named k)
+      subst (Holds op) (sym (answer_given table op cs h k named)) (on_all op w cs named k)
 
 -- the answer of a line holds over the table as it is printed, and so is true of it
-pub answer_holds : (table : Table) (op : Op) → AreFormed table → IsLimit table.limits.rows → is_built op ≡ true → IsWellFormedOp op
+pub answer_holds : (table : Table) (op : Op) → AreFormed table → IsLimit table.limits.rows → IsWellFormedOp op
     → HoldsOver Two table op (answer_of table op)
-answer_holds table op formed limited built w = by_due table formed limited op built w _ _ refl refl
+answer_holds table op formed limited w = by_due table formed limited op w _ _ refl refl
 
-answer_true : (table : Table) (op : Op) → AreFormed table → IsLimit table.limits.rows → is_built op ≡ true → IsWellFormedOp op
+answer_true : (table : Table) (op : Op) → AreFormed table → IsLimit table.limits.rows → IsWellFormedOp op
     → IsTrueOf table op (answer_of table op)
-answer_true table op formed limited built w =
-    line_is_true Two table op (answer_of table op) (formed_are_distinct table.contracts formed) w (answer_holds table op formed limited built w)
+answer_true table op formed limited w =
+    line_is_true Two table op (answer_of table op) (formed_are_distinct table.contracts formed.contracts) w (answer_holds table op formed limited w)
 
 -- ---- the limits past an answer
 set_limits : (table : Table) (op : Op) → IsLimit table.limits.rows → IsWellFormedOp op → IsLimit (with_limit table op).limits.rows
@@ -181,18 +226,45 @@ limits_stay table op (AnsweredBy a) l w = by (result_of op) (contract_of a)
     by None (Some c) = l
     by (Some n) (Some c) = l
 
+-- ---- the nominal values past an answer
+nominal_stays : (table : Table) (op : Op) (answer : LineAnswer) → IsNominal table.nominal → IsNominal (advanced table op answer).nominal
+nominal_stays table op (Unknown name) h = h
+nominal_stays table op (Taken name) h = h
+nominal_stays table op Set h = limit_set op
+  where
+    limit_set : (op : Op) → IsNominal (with_limit table op).nominal
+    limit_set (LimitRows most) = h
+    limit_set (LimitPivots most) = h
+    limit_set (Merge result left right) = h
+    limit_set (Test of names at) = h
+    limit_set (Refine left right) = h
+    limit_set (Bound of least goal) = h
+    limit_set (Hide result of names) = h
+    limit_set (Compose result parts keep) = h
+    limit_set (Quotient result whole part) = h
+nominal_stays table op (AnsweredBy a) h = by (result_of op) (contract_of a)
+  where
+    by : (name : Option Name) (contract : Option Contract) → IsNominal (with_answer table name contract).nominal
+    by name None = h
+    by None (Some c) = h
+    by (Some n) (Some c) = h
+
 -- all answers of a script hold as they are printed
 pub answers_hold : (lines : List ScriptLine) (table : Table)
-    → AreFormed table → IsLimit table.limits.rows → All (λ line. is_built line.op ≡ true) lines → All IsWellFormedLine lines
+    → AreFormed table → IsLimit table.limits.rows → All IsWellFormedLine lines
     → HoldEach Two table (answers_from table lines)
-answers_hold [] table formed limited built w = tt
-answers_hold (line ∷ lines) table formed limited built w =
+answers_hold [] table formed limited w = tt
+answers_hold (line ∷ lines) table formed limited w =
     let op_formed = (All-head IsWellFormedLine line lines w).op in
-    let holds = answer_holds table line.op formed limited (All-head (λ l. is_built l.op ≡ true) line lines built) op_formed in (
+    let holds = answer_holds table line.op formed limited op_formed in (
       holds,
-      answers_hold lines (past table line) (printed_table_stays Two table line.op (answer_of table line.op) limited.greatest formed holds)
+      answers_hold lines (past table line)
+          (record {
+            contracts = printed_table_stays Two table line.op (answer_of table line.op) limited.greatest formed.contracts holds;
+            nominal = nominal_stays table line.op (answer_of table line.op) formed.nominal;
+          })
           (limits_stay table line.op (answer_of table line.op) limited op_formed)
-          (All-tail (λ l. is_built l.op ≡ true) line lines built) (All-tail IsWellFormedLine line lines w),
+          (All-tail IsWellFormedLine line lines w),
     )
 
 -- so they are true
@@ -204,11 +276,11 @@ answered_formed (line ∷ lines) table w =
     (All-head IsWellFormedLine line lines w).op (answered_formed lines (past table line) (All-tail IsWellFormedLine line lines w))
 
 pub answers_true : (lines : List ScriptLine) (table : Table)
-    → AreFormed table → IsLimit table.limits.rows → All (λ line. is_built line.op ≡ true) lines → All IsWellFormedLine lines
+    → AreFormed table → IsLimit table.limits.rows → All IsWellFormedLine lines
     → AreTrue table (answers_from table lines)
-answers_true lines table formed limited built w =
-    report_is_true Two table (answers_from table lines) (formed_are_distinct table.contracts formed) (answered_formed lines table w)
-    (answers_hold lines table formed limited built w)
+answers_true lines table formed limited w =
+    report_is_true Two table (answers_from table lines) (formed_are_distinct table.contracts formed.contracts) (answered_formed lines table w)
+    (answers_hold lines table formed limited w)
 
 -- ---- the table goes past an answer
 free_of : (table : Table) (name : Name) (found : Option Contract)
@@ -243,17 +315,17 @@ pub answer_advances : (table : Table) (op : Op) → CanAdvance table op (answer_
 answer_advances table op = advances_by table op (unknown table.contracts op) (taken table.contracts op) refl refl
 
 -- ---- of a call's result
-pub if_ok_holds : {E : Type 0} (table : Table) (op : Op) → IsLimit table.limits.rows → is_built op ≡ true → IsWellFormedOp op
+pub if_ok_holds : {E : Type 0} (table : Table) (op : Op) → IsLimit table.limits.rows → IsWellFormedOp op
     → (r : Result LineAnswer E) → IfOk r (λ a. a ≡ answer_of table op)
     → AreFormed table → IfOk r (HoldsOver Two table op)
-if_ok_holds table op limited built w (Ok a) is formed = subst (HoldsOver Two table op) (sym is) (answer_holds table op formed limited built w)
-if_ok_holds table op limited built w (Err e) is formed = tt
+if_ok_holds table op limited w (Ok a) is formed = subst (HoldsOver Two table op) (sym is) (answer_holds table op formed limited w)
+if_ok_holds table op limited w (Err e) is formed = tt
 
-pub if_ok_true : {E : Type 0} (table : Table) (op : Op) → IsLimit table.limits.rows → is_built op ≡ true → IsWellFormedOp op
+pub if_ok_true : {E : Type 0} (table : Table) (op : Op) → IsLimit table.limits.rows → IsWellFormedOp op
     → (r : Result LineAnswer E) → IfOk r (λ a. a ≡ answer_of table op)
     → AreFormed table → IfOk r (IsTrueOf table op)
-if_ok_true table op limited built w (Ok a) is formed = subst (IsTrueOf table op) (sym is) (answer_true table op formed limited built w)
-if_ok_true table op limited built w (Err e) is formed = tt
+if_ok_true table op limited w (Ok a) is formed = subst (IsTrueOf table op) (sym is) (answer_true table op formed limited w)
+if_ok_true table op limited w (Err e) is formed = tt
 
 pub if_ok_advances : {E : Type 0} (table : Table) (op : Op) (r : Result LineAnswer E)
     → IfOk r (λ a. a ≡ answer_of table op) → IfOk r (CanAdvance table op)

@@ -1,12 +1,15 @@
 -- The answer to each line of a script: the refusal by names, ports or counts that is due first, else what the operation gives.
-use Rattle.std.specs.Prelude.{List, [], ◌∷◌, ◌++◌, ℤ, pos, ℕ, ◌≡◌, length, map, Result, Ok, Err, All, if◌then◌else◌}
+use Rattle.std.specs.Prelude.{List, [], ◌∷◌, ◌++◌, ℤ, pos, ℕ, ◌≡◌, length, map, Result, Ok, Err, Bool, Option, find, is_none, All, if◌then◌else◌}
 use Rattle.std.specs.Ordering.{int_eq}
 use Rattle.pa_math.specs.Answers.{given}
 use Rattle.pa_meaning.specs.Rows.{Point}
 use Rattle.pa_meaning.specs.Contracts.{Name, Contract, ports, coefficient_at}
+use Rattle.pa_meaning.specs.Composition.{all_outputs}
+use Rattle.pa_meaning.specs.Directions.{Stuck}
 use Rattle.pa_contract.specs.Merge.{merge_of}
 use Rattle.pa_contract.specs.Testing.{Tested, tested}
-use Rattle.pa_contract.specs.Named.{contracts_named}
+use Rattle.pa_contract.specs.Named.{contract_named, contracts_named}
+use Rattle.pa_contract.specs.Nominal.{IsNominal}
 use Rattle.pa_contract.specs.WellFormed.{IsWellFormed}
 use Rattle.pa_contract.specs.declared.fault.MergeFault.{MergeFault}
 use Rattle.pa_contract.specs.declared.fault.MergeFault.TheVariants as merging
@@ -14,15 +17,16 @@ use Rattle.pa_contract.specs.declared.fault.TestFault.{TestFault}
 use Rattle.pa_contract.specs.declared.fault.TestFault.TheVariants as testing
 use Rattle.pa_script.specs.declared.op.ScriptLine.{ScriptLine}
 use Rattle.pa_script.specs.declared.op.Op.{Op}
-use Rattle.pa_script.specs.declared.op.Op.TheVariants.{Merge, Test, Refine, Bound, Hide}
+use Rattle.pa_script.specs.declared.op.Op.TheVariants.{Merge, Test, Refine, Bound, Hide, Compose, Quotient}
 use Rattle.pa_script.specs.Ops.{operands}
 use Rattle.pa_row.specs.declared.place.Place.{Place}
 use Rattle.pa_row.specs.declared.step.Broken.{Broken}
 use Rattle.pa_row.specs.declared.step.Broken.TheVariants.{Assumption, Guarantee}
-use Rattle.pa_cert.specs.Lists.{Located, Heading, HiddenAnswer}
+use Rattle.pa_cert.specs.Lists.{Located, Heading, HiddenAnswer, ComposedAnswer, DividedAnswer, StuckRow}
 use Rattle.pa_cert.specs.declared.refusal.NameRefusal.TheVariants.{UnknownPort, PortClash, NotOutput, PortsDiffer, Variables, Rows}
 use Rattle.pa_cert.specs.declared.answer.Answer.TheVariants.{Merged, TestedAs, Yes, NoAssumption, NoGuarantee, Value, Unbounded, Nothing}
-use Rattle.pa_cert.specs.declared.answer.Answer.TheVariants.{Hidden, Refused, RowLimit, PivotLimit, TooWide}
+use Rattle.pa_cert.specs.declared.answer.Answer.TheVariants.{Hidden, Composed, Divided, Refused, NoMultipliers, NoMultipliersFor, Circle}
+use Rattle.pa_cert.specs.declared.answer.Answer.TheVariants.{RowLimit, PivotLimit, TooWide}
 use Rattle.pa_cert.specs.declared.answer.LineAnswer.{LineAnswer}
 use Rattle.pa_cert.specs.declared.answer.LineAnswer.TheVariants.{Set, Unknown, Taken, Answered as AnsweredBy}
 use Rattle.pa_cert.specs.Tables.{Table, Answered, advanced}
@@ -42,6 +46,12 @@ use Rattle.pa_refine.specs.Meant.{at_ports as located_at}
 use Rattle.pa_compose.specs.declared.fault.HideFault.{HideFault}
 use Rattle.pa_compose.specs.declared.fault.HideFault.TheVariants as hiding
 use Rattle.pa_compose.specs.Hiding.{hidden_of}
+use Rattle.pa_compose.specs.declared.compose_fault.ComposeFault.{ComposeFault}
+use Rattle.pa_compose.specs.declared.compose_fault.ComposeFault.TheVariants as composing
+use Rattle.pa_compose.specs.Composing.{composed_of}
+use Rattle.pa_quotient.specs.declared.fault.QuotientFault.{QuotientFault}
+use Rattle.pa_quotient.specs.declared.fault.QuotientFault.TheVariants as dividing
+use Rattle.pa_quotient.specs.Dividing.{divided_of}
 
 -- what a merge tells; want of memory is no answer
 abbrev pub merge_answer : Result Contract MergeFault → LineAnswer
@@ -134,6 +144,58 @@ hide_answer (Err (hiding.PivotLimit place)) = limited place
 hide_answer (Err (hiding.Wide place)) = AnsweredBy (TooWide place)
 hide_answer (Err hiding.Memory) = Set
 
+-- ---- compositions
+-- no contract has the name; the first of these names that none has
+abbrev pub is_unknown : Table → Name → Bool
+is_unknown table name = is_none (contract_named table.contracts name)
+
+abbrev pub first_unknown : Table → List Name → Option Name
+first_unknown table names = find (is_unknown table) names
+
+-- a stuck assumption, with its direction by the outputs of the parts
+abbrev pub stuck_row : List Contract → Stuck → StuckRow
+stuck_row parts s = record { part = s.part; row = s.row; direction = heading_of (all_outputs parts) s.direction }
+
+abbrev pub stuck_rows : List Contract → List Stuck → List StuckRow
+stuck_rows parts ss = map (stuck_row parts) ss
+
+-- what a composition tells
+abbrev pub refusal_answer : List Contract → ComposeFault → LineAnswer
+refusal_answer parts (composing.PortClash name) = AnsweredBy (Refused (PortClash name))
+refusal_answer parts (composing.NotOutput name) = AnsweredBy (Refused (NotOutput name))
+refusal_answer parts (composing.VariableLimit count) = AnsweredBy (Refused (Variables count))
+refusal_answer parts (composing.Load count) = AnsweredBy (Refused (Rows count))
+refusal_answer parts (composing.NoMultipliers s) = AnsweredBy (NoMultipliers (stuck_row parts s))
+refusal_answer parts (composing.Circle ss) = AnsweredBy (Circle (stuck_rows parts ss))
+refusal_answer parts (composing.RowLimit step count) = AnsweredBy (RowLimit step count)
+refusal_answer parts (composing.PivotLimit place) = limited place
+refusal_answer parts (composing.Wide place) = AnsweredBy (TooWide place)
+refusal_answer parts composing.Memory = Set
+
+abbrev pub compose_answer : List Contract → Result ComposedAnswer ComposeFault → LineAnswer
+compose_answer parts (Ok a) = AnsweredBy (Composed a)
+compose_answer parts (Err f) = refusal_answer parts f
+
+-- ---- quotients
+-- a direction has a number for each output of the part
+abbrev pub HasOutputs : Contract → QuotientFault → Type 0
+HasOutputs part (dividing.NoMultipliers row d) = length d ≡ length part.outputs
+HasOutputs part other = Unit {0}
+
+-- what a quotient by the part tells
+abbrev pub undivided_answer : Contract → QuotientFault → LineAnswer
+undivided_answer part (dividing.PortClash name) = AnsweredBy (Refused (PortClash name))
+undivided_answer part (dividing.VariableLimit count) = AnsweredBy (Refused (Variables count))
+undivided_answer part (dividing.Load count) = AnsweredBy (Refused (Rows count))
+undivided_answer part (dividing.NoMultipliers row d) = AnsweredBy (NoMultipliersFor row (heading_of part.outputs d))
+undivided_answer part (dividing.PivotLimit place) = limited place
+undivided_answer part (dividing.Wide place) = AnsweredBy (TooWide place)
+undivided_answer part dividing.Memory = Set
+
+abbrev pub quotient_answer : Contract → Result DividedAnswer QuotientFault → LineAnswer
+quotient_answer part (Ok a) = AnsweredBy (Divided a)
+quotient_answer part (Err f) = undivided_answer part f
+
 -- ---- any line
 -- what an operation gives on the contracts that it names
 abbrev pub answer_on : Table → Op → List Contract → LineAnswer
@@ -142,6 +204,8 @@ answer_on table (Test of names at) (c ∷ []) = test_answer c names at
 answer_on table (Refine left right) (a ∷ b ∷ []) = refine_answer a (refined_of a b table.limits.pivots)
 answer_on table (Bound of least goal) (c ∷ []) = bound_answer c (bounded_of c goal least table.limits.pivots)
 answer_on table (Hide result of names) (c ∷ []) = hide_answer (hidden_of c names table.limits.rows table.limits.pivots)
+answer_on table (Compose result names keep) parts = compose_answer parts (composed_of parts keep table.nominal table.limits.rows table.limits.pivots)
+answer_on table (Quotient result whole part) (a ∷ b ∷ []) = quotient_answer b (divided_of a b table.nominal table.limits.pivots)
 answer_on table op contracts = Set
 
 -- the answer to an operation over a table: a contract that is not there, then a result's name that is not free, then what the
@@ -164,6 +228,7 @@ abbrev pub answers_from : Table → List ScriptLine → List Answered
 answers_from table [] = []
 answers_from table (line ∷ lines) = answered table line ∷ answers_from (past table line) lines
 
--- each contract of the table is well formed
-abbrev pub AreFormed : Table → Type 0
-AreFormed table = All (λ named. IsWellFormed named.contract) table.contracts
+-- each contract of the table is well formed, and its nominal values are fractions, one for each name
+pub record AreFormed (table : Table) : Type 0 where
+  pub contracts : All (λ named. IsWellFormed named.contract) table.contracts
+  pub nominal : IsNominal table.nominal

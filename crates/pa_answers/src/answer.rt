@@ -1,5 +1,5 @@
 // The answer to a script line.
-ghost use Rattle.std.specs.Prelude.{◌≡◌, IfOk, true, length};
+ghost use Rattle.std.specs.Prelude.{◌≡◌, ◌≤◌, IfOk, length};
 ghost use Rattle.pa_meaning.specs.Contracts.{ports};
 ghost use Rattle.pa_witness.specs.Steps.{Two};
 ghost use Rattle.pa_row.specs.Steps.{IsLimit};
@@ -10,9 +10,10 @@ ghost use Rattle.pa_cert.specs.Tables.{CanAdvance};
 ghost use Rattle.pa_holds.specs.Tables.{HoldsOver, IsTrueOf};
 ghost use Rattle.pa_answers.specs.Answers as spec;
 ghost use Rattle.pa_answers.specs.Answers.{AreFormed};
-ghost use Rattle.pa_answers.specs.Built.{is_built};
 
 use crate::bounding::bounded;
+use crate::composing::{composed, first_unknown, parts_named};
+use crate::dividing::divided;
 use crate::hiding::hidden;
 use crate::point::at_ports;
 use crate::refining::refined;
@@ -23,7 +24,7 @@ use pa_grammar::Linear;
 use pa_names::{Name, Names};
 use pa_refine::first_missing_port;
 use pa_row::Point;
-use pa_script::{Op, ScriptLine};
+use pa_script::{Mentions, Op, ScriptLine};
 use std::alloc::{AllocError, Global};
 
 // The merge of two contracts, or its refusal.
@@ -179,9 +180,54 @@ fn hide_line(
     hidden(alloc, contract, names, table.limits())
 }
 
+// The answer to a composition.
+#[tactic(auto, using(crate::proofs::Truths::compose_given))]
+fn compose_line(
+    alloc: Global,
+    table: &Table,
+    name: &Name,
+    names: &Mentions,
+    keep: &Names,
+) -> Result<LineAnswer, AllocError>
+    requires few { length names.now ≤ 32 }
+    ensures { IfOk result (λ answer. answer ≡ spec.answer_of table.now (Op.Compose name.now names.now keep.now)) }
+{
+    if let Some(missing) = first_unknown(table, &names.names) {
+        return unknown(alloc, missing);
+    }
+    if table.find(name).is_some() {
+        return taken(alloc, name);
+    }
+    let parts = parts_named(alloc, table, &names.names)?;
+    composed(alloc, &parts, keep, table.nominal(), table.limits())
+}
+
+// The answer to a quotient.
+#[tactic(auto, using(crate::proofs::Truths::quotient_given))]
+fn quotient_line(
+    alloc: Global,
+    table: &Table,
+    name: &Name,
+    whole: &Name,
+    part: &Name,
+) -> Result<LineAnswer, AllocError>
+    ensures { IfOk result (λ answer. answer ≡ spec.answer_of table.now (Op.Quotient name.now whole.now part.now)) }
+{
+    let Some(a) = table.find(whole) else {
+        return unknown(alloc, whole);
+    };
+    let Some(b) = table.find(part) else {
+        return unknown(alloc, part);
+    };
+    if table.find(name).is_some() {
+        return taken(alloc, name);
+    }
+    divided(alloc, a, b, table.nominal(), table.limits())
+}
+
 // The answer to the line's operation.
 fn answer_op(alloc: Global, table: &Table, op: &Op) -> Result<LineAnswer, AllocError>
-    requires { is_built op.now ≡ true }
+    requires well_formed { IsWellFormedOp op.now }
     ensures { IfOk result (λ answer. answer ≡ spec.answer_of table.now op.now) }
 {
     match op {
@@ -195,7 +241,16 @@ fn answer_op(alloc: Global, table: &Table, op: &Op) -> Result<LineAnswer, AllocE
         Op::Refine { left, right } => refine_line(alloc, table, left, right),
         Op::Bound { of, least, goal } => bound_line(alloc, table, of, *least, goal),
         Op::Hide { result, of, names } => hide_line(alloc, table, result, of, names),
-        Op::Compose { .. } | Op::Quotient { .. } => unreachable!(),
+        Op::Compose {
+            result,
+            parts,
+            keep,
+        } => compose_line(alloc, table, result, parts, keep),
+        Op::Quotient {
+            result,
+            whole,
+            part,
+        } => quotient_line(alloc, table, result, whole, part),
     }
 }
 
@@ -208,14 +263,13 @@ fn show_limits(table: &Table)
 
 /// The answer to a script line over the table. A refusal by names comes first: a contract that is not
 /// there (`Unknown`), then a result's name that is not free (`Taken`); then what the operation refuses or
-/// gives. The line asks for an operation that is built, and is well formed. Over a table of well-formed contracts the
-/// answer holds as it is printed, under the limits in force, and so is true; and the table can go past it.
+/// gives. The line is well formed. Over a table of well-formed contracts the answer holds as it is printed, under the limits
+/// in force, and so is true; and the table can go past it.
 pub fn answer_line(
     alloc: Global,
     table: &Table,
     line: &ScriptLine,
 ) -> Result<LineAnswer, AllocError>
-    requires built { is_built line.now.op ≡ true }
     requires well_formed { IsWellFormedOp line.now.op }
     ensures answer { IfOk result (λ answer. answer ≡ spec.answer_of table.now line.now.op) }
     ensures holds { AreFormed table.now → IfOk result (HoldsOver Two table.now line.now.op) }

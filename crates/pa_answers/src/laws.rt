@@ -3,7 +3,7 @@ ghost use Rattle.pa_answers.specs.Laws.{AnswersAreTrue, AnswersHold};
 
 /// The answers to the lines of a script hold as they are printed, each over the table that the earlier answers leave, under
 /// the limits in force there. The table begins with well-formed contracts and a limit of rows in its range, and the lines
-/// are well formed and ask for operations that are built.
+/// are well formed.
 pub fn answers_hold()
     ensures { AnswersHold }
 {}

@@ -60,8 +60,8 @@ fn number_at(numbers: &[i128], place: u32) -> i128
     numbers[place as usize]
 }
 
-// The heading with the numbers of these names.
-fn with_numbers(
+/// The heading with the numbers of these names.
+pub(crate) fn with_numbers(
     alloc: Global,
     mut heading: Heading,
     names: &Names,

@@ -19,7 +19,7 @@ use Rattle.pa_answers.proofs.Scripts.{lines_answered}
 use Rattle.pa_engine.specs.declared.status.Status.{Status}
 use Rattle.pa_engine.specs.declared.status.Status.TheVariants.{Done, Memory}
 use Rattle.pa_engine.specs.Words.{Paths, paths_of, upgrade_path_of}
-use Rattle.pa_engine.specs.Inputs.{StandsAt, ReadsAt, AreRead, AreGiven, IsUpgradedAt, IsNoDiagram, IsStopped, all_built}
+use Rattle.pa_engine.specs.Inputs.{StandsAt, ReadsAt, AreRead, AreGiven, IsUpgradedAt, IsNoDiagram, IsStopped}
 use Rattle.pa_engine.specs.Statuses.{line_of}
 use Rattle.pa_engine.specs.Ends.{Seen, IsCaused, IsDue, IsReportDue, IsUpgradeDue, IsPut, IsReported, IsReady, IsReadyUpgrade, IsWhole, IsAnswered}
 use Rattle.pa_engine.specs.Ends.{TookTrueReport, TookUpgrade, table_of, answers_of, status_of}
@@ -70,7 +70,7 @@ as_read told paths d lines r = record {
 
 -- ---- inputs that are read
 module _ (told : Option Files) (files : Files) (tells : told ≡ Some files) (paths : Paths) (diagram : Diagram) (lines : List ScriptLine)
-    (are_read : AreRead told paths diagram lines) (built : all_built lines ≡ true) where
+    (are_read : AreRead told paths diagram lines) where
   same_diagram : (other : Diagram) → ReadsAt diagram_of told paths.diagram (Ok other) → other ≡ diagram
   same_diagram other h =
       let bytes = stands_same told files tells paths.diagram h.bytes are_read.diagram_at.bytes h.stands are_read.diagram_at.stands in
@@ -81,11 +81,6 @@ module _ (told : Option Files) (files : Files) (tells : told ≡ Some files) (pa
       let bytes = stands_same told files tells paths.script h.bytes are_read.script_at.bytes h.stands are_read.script_at.stands in
       ok_same others lines (sym h.is ∙ ap script_of bytes ∙ are_read.script_at.is)
 
-  not_early : (others : List ScriptLine) → ReadsAt script_of told paths.script (Ok others) → all_built others ≡ false → ⊥
-  not_early others h early =
-      let same : all_built others ≡ true = ap all_built (same_lines others h) ∙ built in
-      absurd (cc)
-
   -- a run over inputs that are read does not stop at them
   not_stopped : (read : Type 0) (status : Status) → ¬ read → IsStopped told paths read status → ⊥
   not_stopped read status no_read (inl (inl (bytes, stands, (fault, bad, is)))) =
@@ -94,11 +89,9 @@ module _ (told : Option Files) (files : Files) (tells : told ≡ Some files) (pa
   not_stopped read status no_read (inl (inr (is, inl missing))) =
       not_missing told files tells paths.diagram are_read.diagram_at.bytes are_read.diagram_at.stands missing
   not_stopped read status no_read (inl (inr (is, inr rose))) = no_read rose
-  not_stopped read status no_read (inr (other, reads, inl (bytes, stands, inl (fault, bad, is)))) =
+  not_stopped read status no_read (inr (other, reads, inl (bytes, stands, (fault, bad, is)))) =
       let same = stands_same told files tells paths.script bytes are_read.script_at.bytes stands are_read.script_at.stands in
       not_both (script_of bytes) lines fault (ap script_of same ∙ are_read.script_at.is) bad
-  not_stopped read status no_read (inr (other, reads, inl (bytes, stands, inr (others, read_as, early, is)))) =
-      not_early others (record { bytes = bytes; stands = stands; is = read_as }) early
   not_stopped read status no_read (inr (other, reads, inr (is, inl missing))) =
       not_missing told files tells paths.script are_read.script_at.bytes are_read.script_at.stands missing
   not_stopped read status no_read (inr (other, reads, inr (is, inr rose))) = no_read rose
@@ -184,7 +177,7 @@ module _ (words : List (List ℕ)) (told : Option Files) (read write : Type 0) (
       due_whole status text (inr (inl (paths, accepted, due))) =
           let are_read = as_read told ready.paths ready.diagram ready.lines ready.are_given in
           let same : paths ≡ ready.paths = some_same paths ready.paths (sym accepted ∙ ready.accepted) in
-          reported told ready.files ready.tells ready.paths ready.diagram ready.lines are_read ready.built read status text no_read
+          reported told ready.files ready.tells ready.paths ready.diagram ready.lines are_read read status text no_read
           (subst (λ p. IsReportDue p told read status text) same due)
       due_whole status text (inr (inr (path, accepted, due))) = absurd (one_form words ready.paths path ready.accepted accepted)
 
@@ -241,10 +234,8 @@ module _ (words : List (List ℕ)) (told : Option Files) (read write : Type 0) (
 
   stopped_unanswered : (paths : Paths) (status : Status) → IsStopped told paths read status → IsAnswered status → ⊥
   stopped_unanswered paths status (inl none) answered = no_diagram_unanswered diagram_of paths.diagram status none answered
-  stopped_unanswered paths status (inr (other, reads, inl (bytes, stands, inl (fault, bad, is)))) (inl done) = absurd (cc)
-  stopped_unanswered paths status (inr (other, reads, inl (bytes, stands, inl (fault, bad, is)))) (inr refused) = absurd (cc)
-  stopped_unanswered paths status (inr (other, reads, inl (bytes, stands, inr (others, are, early, is)))) (inl done) = absurd (cc)
-  stopped_unanswered paths status (inr (other, reads, inl (bytes, stands, inr (others, are, early, is)))) (inr refused) = absurd (cc)
+  stopped_unanswered paths status (inr (other, reads, inl (bytes, stands, (fault, bad, is)))) (inl done) = absurd (cc)
+  stopped_unanswered paths status (inr (other, reads, inl (bytes, stands, (fault, bad, is)))) (inr refused) = absurd (cc)
   stopped_unanswered paths status (inr (other, reads, inr (is, cause))) (inl done) = absurd (cc)
   stopped_unanswered paths status (inr (other, reads, inr (is, cause))) (inr refused) = absurd (cc)
 

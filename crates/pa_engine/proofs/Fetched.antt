@@ -19,7 +19,7 @@ use Rattle.pa_script.specs.Script.{script_of}
 use Rattle.pa_engine.specs.declared.status.Status.{Status}
 use Rattle.pa_engine.specs.declared.status.Status.TheVariants.{Memory}
 use Rattle.pa_engine.specs.Words.{Paths}
-use Rattle.pa_engine.specs.Inputs.{StandsAt, ReadsAt, IsUpgradedAt, IsBadDiagram, IsNoDiagram, IsBadScript, IsEarlyScript, IsNoScript, IsStopped}
+use Rattle.pa_engine.specs.Inputs.{StandsAt, ReadsAt, IsUpgradedAt, IsBadDiagram, IsNoDiagram, IsBadScript, IsNoScript, IsStopped}
 
 some_same : {A : Type 0} (x y : A) → Some x ≡ Some y → x ≡ y
 some_same x y h = cc
@@ -129,14 +129,12 @@ module _ (told : Option Files) (path bytes : List ℕ) (given : GivesFront told 
   script_stands (Err status) is = tt
 
   pub no_script : (read : Type 0) (r : Result (List ScriptLine) Status)
-      → IfErr r (λ status. (status ≡ Memory) ⊎ IsBadScript bytes status ⊎ IsEarlyScript bytes status)
+      → IfErr r (λ status. (status ≡ Memory) ⊎ IsBadScript bytes status)
       → IfErr r (λ status. (status ≡ Memory) ⊎ IsNoScript told path read status)
   no_script read (Ok lines) h = tt
   no_script read (Err status) (inl memory) = inl memory
-  no_script read (Err status) (inr (inl (fault, bad, is))) =
-      inr (inl (script_front.content, script_front.stands, inl (fault, sym script_front.same ∙ bad, is)))
-  no_script read (Err status) (inr (inr (lines, are, early, is))) =
-      inr (inl (script_front.content, script_front.stands, inr (lines, sym script_front.same ∙ are, early, is)))
+  no_script read (Err status) (inr (fault, bad, is)) =
+      inr (inl (script_front.content, script_front.stands, (fault, sym script_front.same ∙ bad, is)))
 
 -- ---- both
 

@@ -14,7 +14,7 @@ use Rattle.pa_answers.specs.Answers.{answers_from}
 use Rattle.pa_engine.specs.declared.status.Status.{Status}
 use Rattle.pa_engine.specs.declared.status.Status.TheVariants.{Done, Refused, Usage, WriteFault, Memory}
 use Rattle.pa_engine.specs.Words.{Paths, paths_of, upgrade_path_of}
-use Rattle.pa_engine.specs.Inputs.{ReadsAt, AreRead, AreGiven, IsUpgradedAt, IsNoDiagram, IsStopped, all_built}
+use Rattle.pa_engine.specs.Inputs.{ReadsAt, AreRead, AreGiven, IsUpgradedAt, IsNoDiagram, IsStopped}
 use Rattle.pa_engine.specs.Statuses.{line_of}
 
 -- What a run is given and what it leaves: the words, the files where the shelf tells them, whether the shelf's and the
@@ -115,7 +115,7 @@ pub record TookUpgrade (path : List ℕ) (told : Option Files) (old new : Option
 
 -- ---- completeness
 
--- the words are two paths, and files at both paths that have their form; the script asks for operations that are built
+-- the words are two paths, and files at both paths that have their form
 pub record IsReady (words : List (List ℕ)) (told : Option Files) : Type 0 where
   pub paths : Paths
   pub accepted : paths_of words ≡ Some paths
@@ -124,7 +124,6 @@ pub record IsReady (words : List (List ℕ)) (told : Option Files) : Type 0 wher
   pub diagram : Diagram
   pub lines : List ScriptLine
   pub are_given : AreGiven told paths diagram lines
-  pub built : all_built lines ≡ true
 
 -- the run ended by its answers, and the output took the whole report
 pub record IsWhole {words : List (List ℕ)} {told : Option Files} (ready : IsReady words told)

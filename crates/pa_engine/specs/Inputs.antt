@@ -1,6 +1,5 @@
 -- What stands at the paths, and how a run stops at an input.
-use Rattle.std.specs.Prelude.{◌≡◌, ◌⊎◌, ℕ, List, Option, Some, IfSome, Result, Ok, Err, Bool, false}
-use Rattle.std.specs.List.{list_all}
+use Rattle.std.specs.Prelude.{◌≡◌, ◌⊎◌, ℕ, List, Option, Some, IfSome, Result, Ok, Err}
 use Rattle.pa_desk.specs.Files.{Files, content_at, IsMissing}
 use Rattle.pa_json.specs.Diagrams.{Diagram}
 use Rattle.pa_json.specs.Diagram.{diagram_of}
@@ -10,10 +9,9 @@ use Rattle.pa_json.specs.declared.fault.DiagramFault.{DiagramFault}
 use Rattle.pa_script.specs.declared.op.ScriptLine.{ScriptLine}
 use Rattle.pa_script.specs.declared.fault.ScriptFault.{ScriptFault}
 use Rattle.pa_script.specs.Script.{script_of}
-use Rattle.pa_answers.specs.Built.{is_built}
 use Rattle.pa_engine.specs.declared.status.Status.{Status}
 use Rattle.pa_engine.specs.declared.status.Status.TheVariants.{Input, ReadFault}
-use Rattle.pa_engine.specs.declared.status.InputFault.TheVariants.{BadDiagram, BadScript, EarlyScript}
+use Rattle.pa_engine.specs.declared.status.InputFault.TheVariants.{BadDiagram, BadScript}
 use Rattle.pa_engine.specs.declared.status.Which.TheVariants as which
 use Rattle.pa_engine.specs.Words.{Paths}
 
@@ -50,10 +48,6 @@ pub record IsUpgradedAt (told : Option Files) (path text : List ℕ) : Type 0 wh
   pub is : upgrade_of bytes ≡ Ok text
   pub same : IsUpgrade bytes text
 
--- whether each line asks for an operation that is built
-abbrev pub all_built : List ScriptLine → Bool
-all_built lines = list_all (λ line. is_built line.op) lines
-
 -- the diagram's bytes are refused by what reads them, and the status tells the fault
 abbrev pub IsBadDiagram : {X : Type 0} → (List ℕ → Result X DiagramFault) → List ℕ → Status → Type 0
 IsBadDiagram read bytes status = (fault : DiagramFault) × (read bytes ≡ Err fault) × (status ≡ Input (BadDiagram fault))
@@ -61,10 +55,6 @@ IsBadDiagram read bytes status = (fault : DiagramFault) × (read bytes ≡ Err f
 -- the bytes are no script, and the status tells its fault
 abbrev pub IsBadScript : List ℕ → Status → Type 0
 IsBadScript bytes status = (fault : ScriptFault) × (script_of bytes ≡ Err fault) × (status ≡ Input (BadScript fault))
-
--- the bytes are a script with a line whose operation is not built, and the status tells that
-abbrev pub IsEarlyScript : List ℕ → Status → Type 0
-IsEarlyScript bytes status = (lines : List ScriptLine) × (script_of bytes ≡ Ok lines) × (all_built lines ≡ false) × (status ≡ Input EarlyScript)
 
 -- The run stops at the diagram by this status: what stands there is refused, or it could not be fetched. `rose` says that the
 -- shelf's count of faults rose in this call.
@@ -74,7 +64,7 @@ IsNoDiagram read told path rose status = ((bytes : List ℕ) × StandsAt told pa
 
 -- the run stops at the script
 abbrev pub IsNoScript : Option Files → List ℕ → Type 0 → Status → Type 0
-IsNoScript told path rose status = ((bytes : List ℕ) × StandsAt told path bytes × (IsBadScript bytes status ⊎ IsEarlyScript bytes status))
+IsNoScript told path rose status = ((bytes : List ℕ) × StandsAt told path bytes × IsBadScript bytes status)
     ⊎ ((status ≡ ReadFault which.Script) × (IsMissing told path ⊎ rose))
 
 -- the status by which a run stops at its inputs: at the diagram, or behind a diagram at the script

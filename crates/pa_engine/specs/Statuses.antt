@@ -14,7 +14,7 @@ use Rattle.pa_script.specs.declared.fault.LineKind.{LineKind}
 use Rattle.pa_script.specs.declared.fault.LineKind.TheVariants as kind
 use Rattle.pa_engine.specs.declared.status.Status.{Status}
 use Rattle.pa_engine.specs.declared.status.Status.TheVariants.{Done, Refused, Input, Usage, ReadFault, WriteFault, Memory}
-use Rattle.pa_engine.specs.declared.status.InputFault.TheVariants.{BadDiagram, BadScript, EarlyScript}
+use Rattle.pa_engine.specs.declared.status.InputFault.TheVariants.{BadDiagram, BadScript}
 use Rattle.pa_engine.specs.declared.status.Which.TheVariants.{Diagram, Script}
 
 -- ---- scripts
@@ -78,7 +78,6 @@ diagram_line (diagram.Wire path kind) = told_text (codes "wire") path (wire_text
 abbrev pub line_of : Status → List ℕ
 line_of (Input (BadDiagram fault)) = diagram_line fault
 line_of (Input (BadScript fault)) = script_line fault
-line_of (Input EarlyScript) = codes "input: script early\n"
 line_of Usage = codes "usage: pacti DIAGRAM SCRIPT | pacti DIAGRAM --upgrade\n"
 line_of (ReadFault Diagram) = codes "read fault: diagram\n"
 line_of (ReadFault Script) = codes "read fault: script\n"

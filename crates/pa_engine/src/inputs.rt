@@ -1,5 +1,5 @@
 // The inputs of a run: each is fetched and then read, one after the other.
-ghost use Rattle.std.specs.Prelude.{◌≡◌, ◌≤◌, ◌⊎◌, Ok, IfOk, IfErr, true, false};
+ghost use Rattle.std.specs.Prelude.{◌≡◌, ◌≤◌, ◌⊎◌, Ok, IfOk, IfErr};
 ghost use Rattle.pa_desk.specs.Causes.{Rose};
 ghost use Rattle.pa_json.specs.Diagram.{diagram_of};
 ghost use Rattle.pa_json.specs.Upgrades.{upgrade_of, IsUpgrade};
@@ -7,7 +7,6 @@ ghost use Rattle.pa_script.specs.Script.{script_of};
 ghost use Rattle.pa_engine.specs.Inputs as spec;
 
 use crate::{InputFault, Status, Which};
-use pa_answers::is_built;
 use pa_desk::{FetchFault, Shelf};
 use pa_json::{
     Diagram, DiagramFault, MOST_DIAGRAM_BYTES, MOST_UPGRADE_BYTES, read_diagram, upgrade,
@@ -80,29 +79,13 @@ pub(crate) fn upgraded_at<H: Shelf>(
     }
 }
 
-// Whether each line asks for an operation that is built.
-fn are_built(script: &Script) -> bool
-    ensures { result ≡ spec.all_built script.now }
-{
-    script.lines.iter().all(|line| is_built(&line.op))
-}
-
-// The script of these bytes, whose lines ask for operations that are built, or the status by which the run
-// stops.
+// The script of these bytes, or the status by which the run stops.
 fn script_in(alloc: Global, bytes: &Vec<u8>) -> Result<Script, Status>
     ensures ok { IfOk result (λ script. script_of bytes.now.items ≡ Ok script) }
-    ensures built { IfOk result (λ script. spec.all_built script ≡ true) }
-    ensures err { IfErr result (λ status. (status ≡ Status.Memory)
-        ⊎ spec.IsBadScript bytes.now.items status ⊎ spec.IsEarlyScript bytes.now.items status) }
+    ensures err { IfErr result (λ status. (status ≡ Status.Memory) ⊎ spec.IsBadScript bytes.now.items status) }
 {
     match read_script(alloc, bytes) {
-        Ok(script) => {
-            if are_built(&script) {
-                Ok(script)
-            } else {
-                Err(Status::Input(InputFault::EarlyScript))
-            }
-        }
+        Ok(script) => Ok(script),
         Err(ScriptFault::Memory) => Err(Status::Memory),
         Err(fault) => Err(Status::Input(InputFault::BadScript(fault))),
     }
@@ -111,7 +94,6 @@ fn script_in(alloc: Global, bytes: &Vec<u8>) -> Result<Script, Status>
 // The script at the path, or the status by which the run stops.
 fn script_at<H: Shelf>(alloc: Global, path: &str, shelf: &mut H) -> Result<Script, Status>
     ensures ok { IfOk result (λ script. spec.ReadsAt script_of (H.holds shelf.old) path.now (Ok script)) }
-    ensures built { IfOk result (λ script. spec.all_built script ≡ true) }
     ensures err { IfErr result (λ status. (status ≡ Status.Memory)
         ⊎ spec.IsNoScript (H.holds shelf.old) path.now (Rose (H.faults shelf.old) (H.faults shelf.new)) status) }
     ensures later { H.faults shelf.old ≤ H.faults shelf.new }
@@ -124,8 +106,7 @@ fn script_at<H: Shelf>(alloc: Global, path: &str, shelf: &mut H) -> Result<Scrip
     }
 }
 
-/// The diagram and the script at the two paths, or the status by which the run stops: the first fault. Each
-/// line of the script asks for an operation that is built.
+/// The diagram and the script at the two paths, or the status by which the run stops: the first fault.
 pub(crate) fn read_inputs<H: Shelf>(
     alloc: Global,
     diagram: &str,
@@ -133,7 +114,6 @@ pub(crate) fn read_inputs<H: Shelf>(
     shelf: &mut H,
 ) -> Result<Inputs, Status>
     ensures ok { IfOk result (λ inputs. spec.AreRead (H.holds shelf.old) (record { diagram = diagram.now; script = script.now }) inputs.diagram inputs.script) }
-    ensures built { IfOk result (λ inputs. spec.all_built inputs.script ≡ true) }
     ensures err { IfErr result (λ status. (status ≡ Status.Memory)
         ⊎ spec.IsStopped (H.holds shelf.old) (record { diagram = diagram.now; script = script.now }) (Rose (H.faults shelf.old) (H.faults shelf.new)) status) }
     ensures later { H.faults shelf.old ≤ H.faults shelf.new }

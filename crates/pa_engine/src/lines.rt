@@ -188,9 +188,6 @@ pub(crate) fn push_status_line(text: &mut Vec<u8>, status: &Status) -> Result<()
     match status {
         Status::Input(InputFault::BadDiagram(fault)) => push_diagram_line(text, fault),
         Status::Input(InputFault::BadScript(fault)) => push_script_line(text, fault),
-        Status::Input(InputFault::EarlyScript) => {
-            text.extend_from_slice(b"input: script early\n")
-        }
         Status::Usage => {
             text.extend_from_slice(b"usage: pacti DIAGRAM SCRIPT | pacti DIAGRAM --upgrade\n")
         }

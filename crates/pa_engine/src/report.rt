@@ -1,10 +1,9 @@
 // Each answer is put as soon as it is made.
-ghost use Rattle.std.specs.Prelude.{◌≡◌, ◌≤◌, IfOk, IfErr, OnOk, OnErr, IsErr, IsErrOf, All, true, flat_map};
+ghost use Rattle.std.specs.Prelude.{◌≡◌, ◌≤◌, IfOk, IfErr, OnOk, OnErr, IsErr, IsErrOf, All, flat_map};
 ghost use Rattle.std.specs.List.{list_any};
 ghost use Rattle.pa_desk.specs.Causes.{Rose, HasCause};
 ghost use Rattle.pa_desk.specs.Taken.{with_bytes, TookPrefix};
 ghost use Rattle.pa_script.specs.Ops.{IsWellFormedOp, IsWellFormedLine};
-ghost use Rattle.pa_answers.specs.Built.{is_built};
 ghost use Rattle.pa_cert.specs.Tables.{is_refused as is_refused_answer};
 ghost use Rattle.pa_cert.specs.AnswerText.{answer_text, report_of, end_line};
 ghost use Rattle.pa_answers.specs.Answers.{answer_of, answered, answers_from, past};
@@ -36,7 +35,7 @@ fn text_of(alloc: Global, line: &ScriptLine, answer: &LineAnswer) -> Result<Vec<
 }
 
 /// Answers a line, brings the table past the answer, and puts the answer's text. True says that the answer
-/// is a refusal. The line asks for an operation that is built, and is well formed.
+/// is a refusal. The line is well formed.
 ///
 /// After `Memory` the table is as it was and nothing was put. After `Write` the table has gone past the
 /// answer, and the output took a front of its text. `Write(Failed)` comes only where the output's count of
@@ -47,7 +46,6 @@ pub fn answer_next<O: Sink>(
     line: &ScriptLine,
     out: &mut O,
 ) -> Result<bool, StepFault>
-    requires built { is_built line.now.op ≡ true }
     requires well_formed { IsWellFormedOp line.now.op }
     ensures taken { OnOk result (O.took out.new ≡ with_bytes (O.took out.old) (answer_text (answered table.old line.now))) }
     ensures refused { IfOk result (λ refused. refused ≡ is_refused_answer (answer_of table.old line.now.op)) }
@@ -79,7 +77,6 @@ fn put_answers<O: Sink>(
     lines: &[ScriptLine],
     out: &mut O,
 ) -> Result<bool, PutFault>
-    requires built { All (λ line. is_built line.op ≡ true) lines.now }
     requires well_formed { All IsWellFormedLine lines.now }
     ensures taken { OnOk result (O.took out.new ≡ with_bytes (O.took out.old) (flat_map answer_text (answers_from table lines.now))) }
     ensures refused { IfOk result (λ refused. refused ≡ some_refused (answers_from table lines.now)) }
@@ -117,7 +114,6 @@ fn put_whole<O: Sink>(
     script: &Script,
     out: &mut O,
 ) -> Result<bool, PutFault>
-    requires built { All (λ line. is_built line.op ≡ true) script.now }
     ensures taken { OnOk result (O.took out.new ≡ with_bytes (O.took out.old) (report_of (answers_from table script.now))) }
     ensures refused { IfOk result (λ refused. refused ≡ some_refused (answers_from table script.now)) }
     ensures front { OnErr result (TookPrefix (O.took out.old) (O.took out.new) (report_of (answers_from table script.now))) }
@@ -138,7 +134,6 @@ pub(crate) fn put_report<O: Sink>(
     script: &Script,
     out: &mut O,
 ) -> Status
-    requires built { All (λ line. is_built line.op ≡ true) script.now }
     ensures { IsPut (Rose (O.faults out.old) (O.faults out.new)) (O.took out.old) (O.took out.new)
         (report_of (answers_from table script.now)) (status_of (answers_from table script.now)) result }
 {

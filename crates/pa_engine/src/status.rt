@@ -21,8 +21,6 @@ pub enum InputFault {
     BadDiagram(DiagramFault),
     /// The script is refused. The fault is never `Memory`.
     BadScript(ScriptFault),
-    /// The script is one, and a line of it asks for an operation that is not answered yet.
-    EarlyScript,
 }
 
 /// How a run ends.

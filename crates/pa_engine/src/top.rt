@@ -1,5 +1,5 @@
 // The whole program but for its edge.
-ghost use Rattle.std.specs.Prelude.{◌≡◌, ◌⊎◌, ℕ, List, map, string_bytes, IfOk, Some, true};
+ghost use Rattle.std.specs.Prelude.{◌≡◌, ◌⊎◌, ℕ, List, map, string_bytes, IfOk, Some};
 ghost use Rattle.pa_desk.specs.Causes.{Rose};
 ghost use Rattle.pa_desk.specs.Taken.{with_bytes};
 ghost use Rattle.pa_cert.specs.AnswerText.{report_of};
@@ -8,7 +8,6 @@ ghost use Rattle.pa_holds.specs.Tables.{AreTrue, HoldEach};
 ghost use Rattle.pa_answers.specs.Answers.{AreFormed};
 ghost use Rattle.pa_engine.specs.declared.status.Status.{Status as StatusValue};
 ghost use Rattle.pa_engine.specs.Words.{Paths, paths_of, upgrade_path_of};
-ghost use Rattle.pa_engine.specs.Inputs.{all_built};
 ghost use Rattle.pa_engine.specs.Statuses.{line_of};
 ghost use Rattle.pa_engine.specs.Ends as spec;
 
@@ -71,7 +70,6 @@ fn table_of(diagram: Diagram) -> Result<Table, AllocError>
 
 // Puts the report of the answers to the script over the diagram.
 fn answer_all<O: Sink>(alloc: Global, inputs: Inputs, out: &mut O) -> Status
-    requires { all_built inputs.script ≡ true }
     ensures put { spec.IsPut (Rose (O.faults out.old) (O.faults out.new)) (O.took out.old) (O.took out.new)
         (report_of (spec.answers_of inputs.diagram inputs.script)) (spec.status_of (spec.answers_of inputs.diagram inputs.script)) result }
     ensures printed { HoldEach Two (spec.table_of inputs.diagram) (spec.answers_of inputs.diagram inputs.script) }
