@@ -1,7 +1,7 @@
 #!/bin/sh
-# Measures refinements, bounds and hidings with the proved program; questions.py says what. It can be called from any folder, and needs
-# python3, and, where the program is not built yet, rt. Words that are given are another program that reads the same files: it
-# is run beside, and ratios are printed.
+# Measures refinements, bounds, hidings and compositions with the proved program; questions.py says what. It can be called from any
+# folder, and needs python3, and, where the program is not built yet, rt. Words that are given are another program that reads
+# the same files: it is run beside, and ratios are printed.
 
 bench=$(cd "$(dirname -- "$0")" && pwd) || exit 1
 if ! command -v python3 >/dev/null; then
